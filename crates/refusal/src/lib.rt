@@ -1,0 +1,75 @@
+// Why a call is refused, and where (01, 'Who can cause a refusal').
+ghost use mathlib.Core.Path.{_≡_};
+ghost use Rattle.refusal.specs.Number.{numberOf};
+
+// The condition under which a call is refused: one for each number of 01's list, in its order.
+pub enum Reason {
+    // Faults of the key.
+    KeyTooLong,
+    RecordIncomplete,
+    KindUnknown,
+    RecordMisplaced,
+    BitsTooMany,
+    ArraysTooMany,
+    CellOutside,
+    ValueTooGreat,
+    CalledNotEarlier,
+    CalledTooLarge,
+    PositionTooGreat,
+    LastShapeWrong,
+    BytesAfterEnd,
+    // Faults of the point.
+    RowCountWrong,
+    ColumnCountWrong,
+    CoordinateTooGreat,
+    AddressOutside,
+    // Faults of the calling program.
+    SheetTooShort,
+    BufferTooShort,
+    OffsetTooGreat,
+    OperandTooGreat,
+    ShapesDiffer,
+    // Faults of keysheet's input.
+    InputTooShort,
+    InputTooLong,
+}
+
+// A refusal: its reason, and the place that 01 gives for that reason.
+pub struct Refusal {
+    pub reason: Reason,
+    pub place: usize,
+}
+
+impl Reason {
+    // The number that 01 gives the reason.
+    pub fn number(self) -> u32
+        ensures { λ r. ⌜ r ≡ numberOf self ⌝ }
+    {
+        match self {
+            Reason::KeyTooLong => 1,
+            Reason::RecordIncomplete => 2,
+            Reason::KindUnknown => 3,
+            Reason::RecordMisplaced => 4,
+            Reason::BitsTooMany => 5,
+            Reason::ArraysTooMany => 6,
+            Reason::CellOutside => 7,
+            Reason::ValueTooGreat => 8,
+            Reason::CalledNotEarlier => 9,
+            Reason::CalledTooLarge => 10,
+            Reason::PositionTooGreat => 11,
+            Reason::LastShapeWrong => 12,
+            Reason::BytesAfterEnd => 13,
+            Reason::RowCountWrong => 21,
+            Reason::ColumnCountWrong => 22,
+            Reason::CoordinateTooGreat => 23,
+            Reason::AddressOutside => 24,
+            Reason::SheetTooShort => 31,
+            Reason::BufferTooShort => 32,
+            Reason::OffsetTooGreat => 33,
+            Reason::OperandTooGreat => 34,
+            Reason::ShapesDiffer => 35,
+            Reason::InputTooShort => 41,
+            Reason::InputTooLong => 42,
+        }
+    }
+}
