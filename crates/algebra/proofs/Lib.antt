@@ -1,0 +1,5 @@
+pub mod Rings
+pub mod Fields
+pub mod Sums
+pub mod Counts
+pub mod Examples
