@@ -1,0 +1,55 @@
+-- `field::Fp::mul` meets its contract: folding keeps the remainder, and of a product of two elements it leaves less than 2·p.
+use native.Mathlib.Omega.{arith}
+use borrow.Author.Needs.{needs}
+use Rattle.field.proofs.Remainders.{product-at-most}
+use Rattle.field.proofs.Fp.mul.Statement.{statement}
+use Rattle.field.proofs.Fp.mul.Tie as tie
+
+cast-full : tie.Need-cast-full
+cast-full c = search needs
+
+cast-full-2 : tie.Need-cast-full-2
+cast-full-2 c = search needs
+
+mul-full : tie.Need-mul-full
+mul-full c = omega (arith, product-at-most (c .before .before .pre))
+
+add-folded : tie.Need-add-folded
+add-folded c = omega (arith, product-at-most (c .before .before .pre))
+
+cast-if1 : tie.Need-cast-if1
+cast-if1 c = search needs
+
+cast-t9 : tie.Need-cast-t9
+cast-t9 c = search needs
+
+cast-t10 : tie.Need-cast-t10
+cast-t10 c = search needs
+
+sub-t11 : tie.Need-sub-t11
+sub-t11 c = search needs
+
+cast-t12 : tie.Need-cast-t12
+cast-t12 c = omega (arith, product-at-most (c .before .before .before .pre))
+
+returns : tie.Need-returns
+returns c = search needs
+
+returns-2 : tie.Need-returns-2
+returns-2 c = omega (arith, product-at-most (c .before .before .before .pre))
+
+pub mul-spec : {M : Type 1} → statement M
+mul-spec =
+    tie.close
+    (tie.spec
+    cast-full
+    cast-full-2
+    mul-full
+    add-folded
+    cast-if1
+    cast-t9
+    cast-t10
+    sub-t11
+    cast-t12
+    returns
+    returns-2)

@@ -1,0 +1,5 @@
+pub mod Remainders
+pub mod Divisors
+pub mod Inverses
+pub mod FpField
+pub mod Answers

@@ -1,0 +1,4 @@
+pub mod Fp
+pub mod Prime
+pub mod Answer
+pub mod Inner
