@@ -1,0 +1,73 @@
+-- A record is determined by its kind and its fields, and an answer by what it says.
+use Prim.Native.Nat.{ℕ}
+use mathlib.Core.Bool.{cond}
+use mathlib.Core.List.{List}
+use mathlib.Core.Path.{_≡_, refl, sym, ap, ap₂, _∙_}
+use lib.Dec.{eqb}
+use lib.ListN.{getD}
+use Rattle.refusal.proofs.Outcomes.{refusal-injective, given-not-refused}
+use Rattle.records.specs.Kinds.{kindOf, fieldsOf}
+use Rattle.records.specs.Put.{writtenOutcome}
+use Rattle.records.specs.RoundTrip.{ReadBack}
+use Rattle.records.specs.Take.{Found, takenOutcome, takenAt}
+use Rattle.records.specs.declared.Record.{Record}
+use Rattle.records.specs.declared.Shape.{Shape}
+use Rattle.records.specs.declared.Taken.{Taken}
+use Rattle.records.specs.declared.Written.{Written}
+
+shapeOf : List ℕ → Shape
+shapeOf fields = record { rows = getD fields 0 0; columns = getD fields 1 0 }
+
+-- the record of a kind and fields
+recordOf : ℕ → List ℕ → Record
+recordOf kind fields =
+    cond (eqb kind 1) (Record.Head (shapeOf fields))
+    (cond (eqb kind 2) (Record.Sparse (shapeOf fields))
+    (cond (eqb kind 3) (Record.Recursive (shapeOf fields))
+    (cond (eqb kind 4)
+    (Record.Cell
+    (record {
+      row = getD fields 0 0;
+      column = getD fields 1 0;
+      a = getD fields 2 0;
+      b = getD fields 3 0;
+      c = getD fields 4 0;
+    }))
+    (cond (eqb kind 5)
+    (Record.Call (record { id = getD fields 0 0; down = getD fields 1 0; right = getD fields 2 0 }))
+    Record.End))))
+
+back : (r : Record) → recordOf (kindOf r) (fieldsOf r) ≡ r
+unfolding recordOf shapeOf
+back (Record.Head shape) = refl
+back (Record.Sparse shape) = refl
+back (Record.Recursive shape) = refl
+back (Record.Cell cell) = refl
+back (Record.Call call) = refl
+back Record.End = refl
+
+pub record-determined : (r s : Record) → kindOf r ≡ kindOf s → fieldsOf r ≡ fieldsOf s → r ≡ s
+record-determined r s kinds fields = sym (back r) ∙ ap₂ recordOf kinds fields ∙ back s
+
+pub taken-injective : (r s : Taken) → takenOutcome r ≡ takenOutcome s → r ≡ s
+taken-injective (Taken.Record r m) (Taken.Record s n) e =
+    let founds : _≡_ {A = Found}
+    (record { kind = kindOf r; fields = fieldsOf r; next = m })
+    (record { kind = kindOf s; fields = fieldsOf s; next = n }) = cc in
+    ap₂ Taken.Record
+    (record-determined r s (ap (λ (t : Found). t .kind) founds) (ap (λ (t : Found). t .fields) founds))
+    (ap (λ (t : Found). t .next) founds)
+taken-injective (Taken.Record r m) (Taken.Refused g) e = absurd (given-not-refused e)
+taken-injective (Taken.Refused f) (Taken.Record s n) e = absurd (given-not-refused (sym e))
+taken-injective (Taken.Refused f) (Taken.Refused g) e = ap Taken.Refused (refusal-injective f g e)
+
+pub written-injective : (r s : Written) → writtenOutcome r ≡ writtenOutcome s → r ≡ s
+written-injective (Written.Next m) (Written.Next n) e = ap Written.Next (cc)
+written-injective (Written.Next m) (Written.Refused g) e = absurd (given-not-refused e)
+written-injective (Written.Refused f) (Written.Next n) e = absurd (given-not-refused (sym e))
+written-injective (Written.Refused f) (Written.Refused g) e = ap Written.Refused (refusal-injective f g e)
+
+-- what is taken where a record was put is that record
+pub taken-is : (item : Record) (put : Written) (buffer : List ℕ) (at next : ℕ) → ReadBack item put buffer at → put ≡ Written.Next next →
+    (answer : Taken) → takenOutcome answer ≡ takenAt buffer at → answer ≡ Taken.Record item next
+taken-is item put buffer at next back e answer f = taken-injective answer (Taken.Record item next) (f ∙ back next e)
