@@ -1,0 +1,33 @@
+// Runs the cases of standard input through the public calls and prints a line for each: the case, what is wanted and what
+// was got. tools/cases.py writes the cases and the wanted lines from 01.
+//
+// Standard input is the number of cases in four bytes, and then each case: a header of numbers, the text to print in
+// front of what was got, and bytes of data. All numbers are little-endian.
+mod calls;
+mod header;
+mod print;
+
+fn main() {
+    let cases = count();
+    for _ in 0..cases {
+        run();
+    }
+}
+
+fn count() -> u32 {
+    let mut bytes = [0u8; 4];
+    io::read_full(0, &mut bytes);
+    header::count(&bytes)
+}
+
+// One case.
+fn run() {
+    let mut bytes = [0u8; 48];
+    io::read_full(0, &mut bytes);
+    let header = header::read(&bytes);
+    let mut text = [0u8; 65536];
+    print::echo(header.text, &mut text);
+    let mut space = [0u8; 262144];
+    calls::call(header, &mut space);
+    io::write_all(1, b"\n");
+}

@@ -1,0 +1,116 @@
+// What was got, as text.
+use field::Answer;
+use records::Record;
+use records::Shape;
+use records::Taken;
+use records::Written;
+use refusal::Refusal;
+
+// As many bytes of standard input as asked for, where the space has room.
+pub(crate) fn echo(length: usize, space: &mut [u8]) {
+    if length <= space.len() {
+        pass(&mut space[0..length]);
+    }
+}
+
+fn pass(space: &mut [u8]) {
+    let got = io::read_full(0, space);
+    io::write_all(1, &space[..got]);
+}
+
+pub(crate) fn answer(got: Answer) {
+    match got {
+        Answer::Element(x) => number(x.value() as u64),
+        Answer::Refused(r) => refusal(r),
+    }
+}
+
+pub(crate) fn taken(got: Taken) {
+    match got {
+        Taken::Record(item, next) => {
+            record(item);
+            io::write_all(1, b"next ");
+            number(next as u64);
+        }
+        Taken::Refused(r) => refusal(r),
+    }
+}
+
+pub(crate) fn written(got: Written) {
+    match got {
+        Written::Next(next) => {
+            io::write_all(1, b"next ");
+            number(next as u64);
+        }
+        Written::Refused(r) => refusal(r),
+    }
+}
+
+// The bytes of a buffer from an offset on, in hexadecimal.
+pub(crate) fn bytes(buffer: &[u8], from: usize) {
+    let mut i = from;
+    while i < buffer.len() {
+        byte(buffer[i]);
+        i += 1;
+    }
+}
+
+fn byte(x: u8) {
+    io::print_hex(1, x as u64, 2);
+}
+
+fn record(item: Record) {
+    match item {
+        Record::Head(s) => {
+            io::write_all(1, b"head ");
+            shape(s);
+        }
+        Record::Sparse(s) => {
+            io::write_all(1, b"sparse ");
+            shape(s);
+        }
+        Record::Recursive(s) => {
+            io::write_all(1, b"recursive ");
+            shape(s);
+        }
+        Record::Cell(c) => {
+            io::write_all(1, b"cell ");
+            field(c.row);
+            field(c.column);
+            field(c.a);
+            field(c.b);
+            field(c.c);
+        }
+        Record::Call(c) => {
+            io::write_all(1, b"call ");
+            field(c.id as u32);
+            field(c.down);
+            field(c.right);
+        }
+        Record::End => {
+            io::write_all(1, b"end ");
+        }
+    }
+}
+
+fn shape(s: Shape) {
+    field(s.rows as u32);
+    field(s.columns as u32);
+}
+
+fn field(x: u32) {
+    number(x as u64);
+    io::write_all(1, b" ");
+}
+
+fn refusal(r: Refusal) {
+    let reason = r.reason;
+    io::write_all(1, b"refused ");
+    number(reason.number() as u64);
+    io::write_all(1, b" at ");
+    number(r.place as u64);
+}
+
+fn number(x: u64) {
+    io::print_decimal(1, x);
+}
