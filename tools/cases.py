@@ -1,7 +1,7 @@
 #!/usr/bin/env python3
 """Writes what the test program crates/cases is run on and what it must print, from 01-scope.md alone.
 
-usage: cases.py [--check]
+usage: cases.py [--check | --help]
 
 Without --check it writes crates/cases/stdin and crates/cases/stdout; with it, it says whether they are up to date and
 exits 1 where they are not. Edges that 01 words are written here with the answer that 01 gives; sweeps around them are
@@ -29,7 +29,7 @@ OPERATIONS = {"sum": 1, "difference": 2, "product": 3, "take": 4, "put": 5}
 
 
 class Draw:
-    """Numbers for the sweeps, the same ones everywhere: the generator of Park and Miller, modulo 2^31 - 1."""
+    """Numbers for the sweeps, the same ones everywhere: powers of 48271 modulo 2^31 - 1."""
 
     def __init__(self):
         self.state = 1
@@ -224,6 +224,9 @@ def put_cases(cases, draw):
 
 def main(arguments):
     """Writes the two files, or holds them to what it would write."""
+    if arguments == ["--help"]:
+        print(__doc__.strip())
+        return 0
     if arguments not in ([], ["--check"]):
         print(__doc__.split("\n\n")[1], file=sys.stderr)
         return 2

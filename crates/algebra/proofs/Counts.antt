@@ -2,11 +2,11 @@
 -- count of two tests adds up: so a test counts the points that pass it, each once. What it says of other lists does not
 -- matter. All the points are q^m, and a test and its negation share them.
 use Prim.Native.Nat.{ℕ, zero, suc, _+_, _*_, _^_, _≤_, _<_, zero-le}
-use mathlib.Core.Bool.{Bool, true, false, cond, not, _&&_, _||_}
+use mathlib.Core.Bool.{Bool, true, false, cond, not, _&&_, _||_, and-not-self}
 use mathlib.Core.List.{List, [], _∷_}
-use mathlib.Core.Path.{_≡_, refl, sym, ap, subst, _∙_}
+use mathlib.Core.Path.{_≡_, refl, sym, ap, ap₂, subst, _∙_}
 use native.Mathlib.Decide.{ℕ-discrete}
-use native.Mathlib.Nat.{le-refl, pow-zero, pow-succ', mul-zero}
+use native.Mathlib.Nat.{le-refl, add-zero, pow-zero, pow-succ', mul-zero}
 use native.Mathlib.Omega.{arith}
 use lib.ListN.{length}
 use Rattle.algebra.specs.Arithmetic.{sumBelow, whole}
@@ -81,19 +81,6 @@ count-add q (suc m) s t =
     ∙ sum-same whole q _ _ (λ x l. count-add q m (λ xs. s (x ∷ xs)) (λ xs. t (x ∷ xs)))
     ∙ total-add q _ _
 
--- a test and its negation together count every point
-pub count-split : (q m : ℕ) (s : List ℕ → Bool) → countPoints q m s + countPoints q m (λ xs. not (s xs)) ≡ q ^ m
-unfolding countPoints
-count-split q zero s = go (s [])
-  where
-    go : (a : Bool) → cond a 1 0 + cond (not a) 1 0 ≡ q ^ zero
-    go true = sym (pow-zero q)
-    go false = sym (pow-zero q)
-count-split q (suc m) s =
-    sym (total-add q _ _)
-    ∙ sum-same whole q _ _ (λ x l. count-split q m (λ xs. s (x ∷ xs)))
-    ∙ total-const q (q ^ m) ∙ sym (pow-succ' q m)
-
 pub count-all : (q m : ℕ) → countPoints q m (λ xs. true) ≡ q ^ m
 unfolding countPoints
 count-all q zero = sym (pow-zero q)
@@ -103,6 +90,19 @@ pub count-none : (q m : ℕ) → countPoints q m (λ xs. false) ≡ 0
 unfolding countPoints
 count-none q zero = refl
 count-none q (suc m) = sum-same whole q _ _ (λ x l. count-none q m) ∙ total-const q 0 ∙ mul-zero q
+
+-- a test and its negation together count every point
+pub count-split : (q m : ℕ) (s : List ℕ → Bool) → countPoints q m s + countPoints q m (λ xs. not (s xs)) ≡ q ^ m
+count-split q m s =
+    sym (count-add q m s (λ xs. not (s xs)))
+    ∙ ap₂ _+_
+    (count-same q m _ (λ xs. true) (λ xs e b. one (s xs)) ∙ count-all q m)
+    (count-same q m _ (λ xs. false) (λ xs e b. and-not-self (s xs)) ∙ count-none q m)
+    ∙ add-zero (q ^ m)
+  where
+    one : (b : Bool) → (b || not b) ≡ true
+    one true = refl
+    one false = refl
 
 false-unless : (b : Bool) → (b ≡ true → ⊥) → b ≡ false
 false-unless true h = absurd (h refl)

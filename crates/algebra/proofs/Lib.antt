@@ -2,4 +2,4 @@ pub mod Rings
 pub mod Fields
 pub mod Sums
 pub mod Counts
-pub mod Examples
+pub mod CornerCell

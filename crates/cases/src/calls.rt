@@ -8,6 +8,7 @@ use records::Record;
 use records::Shape;
 ghost use Prim.Native.Nat.{_<_};
 
+// Reads a case's data and makes its call. Inner: the lengths are as the header's reader leaves them.
 pub(crate) fn call(header: Header, space: &mut [u8])
     requires { ⌜ (header .zeros < 131072) × (header .«data» < 131072) ⌝ }
 {
@@ -43,6 +44,7 @@ fn arithmetic(header: Header) -> Answer {
     }
 }
 
+// The data, read behind the zeros.
 fn fill(from: usize, buffer: &mut [u8]) {
     if from <= buffer.len() {
         io::read_full(0, &mut buffer[from..]);

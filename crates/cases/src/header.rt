@@ -1,6 +1,7 @@
 // The numbers in front of a case's text and data.
 ghost use Prim.Native.Nat.{_<_};
 
+// A case's numbers, each of which serves the calls that need it.
 pub struct Header {
     // Which call is made.
     pub operation: u8,
@@ -17,34 +18,35 @@ pub struct Header {
     pub data: usize,
 }
 
+// The header in its 48 bytes. Lengths are cut so that a case fits its space.
 pub(crate) fn read(bytes: &[u8; 48]) -> Header
     ensures { λ r. ⌜ (r .zeros < 131072) × (r .«data» < 131072) ⌝ }
 {
     Header {
         operation: bytes[0],
-        text: (word(bytes, 1) % 65536) as usize,
-        x: long(bytes, 3),
-        y: long(bytes, 11),
+        text: (four_bytes(bytes, 1) % 65536) as usize,
+        x: eight_bytes(bytes, 3),
+        y: eight_bytes(bytes, 11),
         kind: bytes[19],
         fields: [
-            word(bytes, 20),
-            word(bytes, 24),
-            word(bytes, 28),
-            word(bytes, 32),
-            word(bytes, 36),
+            four_bytes(bytes, 20),
+            four_bytes(bytes, 24),
+            four_bytes(bytes, 28),
+            four_bytes(bytes, 32),
+            four_bytes(bytes, 36),
         ],
-        zeros: (word(bytes, 40) % 131072) as usize,
-        data: (word(bytes, 44) % 131072) as usize,
+        zeros: (four_bytes(bytes, 40) % 131072) as usize,
+        data: (four_bytes(bytes, 44) % 131072) as usize,
     }
 }
 
 // The number of cases.
 pub(crate) fn count(bytes: &[u8; 4]) -> u32 {
-    word(bytes, 0)
+    four_bytes(bytes, 0)
 }
 
 // The number in the four bytes at an offset, or 0 where there are no four.
-fn word(bytes: &[u8], at: usize) -> u32 {
+fn four_bytes(bytes: &[u8], at: usize) -> u32 {
     let length = bytes.len();
     if length < 4 {
         return 0;
@@ -59,7 +61,7 @@ fn word(bytes: &[u8], at: usize) -> u32 {
 }
 
 // The number in the eight bytes at an offset, or 0 where there are no eight.
-fn long(bytes: &[u8], at: usize) -> u64 {
+fn eight_bytes(bytes: &[u8], at: usize) -> u64 {
     let length = bytes.len();
     if length < 8 {
         return 0;
@@ -67,7 +69,7 @@ fn long(bytes: &[u8], at: usize) -> u64 {
     if length - 8 < at {
         return 0;
     }
-    (word(bytes, at) as u64) + 4294967296 * (word(bytes, at + 4) as u64)
+    (four_bytes(bytes, at) as u64) + 4294967296 * (four_bytes(bytes, at + 4) as u64)
 }
 
 fn wide(byte: u8) -> u32

@@ -14,6 +14,7 @@ fn main() {
     }
 }
 
+// The number of cases.
 fn count() -> u32 {
     let mut bytes = [0u8; 4];
     io::read_full(0, &mut bytes);

@@ -13,11 +13,13 @@ pub(crate) fn echo(length: usize, space: &mut [u8]) {
     }
 }
 
+// Standard input copied to standard output until the space is full or the input ends.
 fn pass(space: &mut [u8]) {
     let got = io::read_full(0, space);
     io::write_all(1, &space[..got]);
 }
 
+// A number, or a refusal.
 pub(crate) fn answer(got: Answer) {
     match got {
         Answer::Element(x) => number(x.value() as u64),
@@ -25,6 +27,7 @@ pub(crate) fn answer(got: Answer) {
     }
 }
 
+// A record with its kind's name, its fields and the next offset, or a refusal.
 pub(crate) fn taken(got: Taken) {
     match got {
         Taken::Record(item, next) => {
@@ -36,6 +39,7 @@ pub(crate) fn taken(got: Taken) {
     }
 }
 
+// The next offset, or a refusal.
 pub(crate) fn written(got: Written) {
     match got {
         Written::Next(next) => {

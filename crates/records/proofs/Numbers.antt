@@ -38,9 +38,9 @@ bytes-number (byte ∷ bytes) are =
 
 -- ---- the bytes at an offset
 
-drop-at : (bytes : List ℕ) (at k : ℕ) → at + k < length bytes →
+drop-next : (bytes : List ℕ) (at k : ℕ) → at + k < length bytes →
     drop (at + k) bytes ≡ getD bytes (at + k) 0 ∷ drop (at + suc k) bytes
-drop-at bytes at k l = rw add-suc (drop-cons bytes (at + k) 0 l)
+drop-next bytes at k l = rw add-suc (drop-cons bytes (at + k) 0 l)
 
 pub drop-from : (bytes : List ℕ) (at : ℕ) → at < length bytes → drop at bytes ≡ getD bytes at 0 ∷ drop (at + 1) bytes
 drop-from bytes at l = rw add-one (drop-cons bytes at 0 l)
@@ -53,12 +53,12 @@ byte-in bytes at h = rw (drop-from bytes at h) (omega arith)
 pub two-bytes-in : (bytes : List ℕ) (at : ℕ) → at + 2 ≤ length bytes →
     numberIn (take 2 (drop at bytes)) ≡ getD bytes at 0 + 256 * getD bytes (at + 1) 0
 two-bytes-in bytes at h =
-    rw (drop-from bytes at (omega arith), drop-at bytes at 1 (omega arith)) (omega arith)
+    rw (drop-from bytes at (omega arith), drop-next bytes at 1 (omega arith)) (omega arith)
 
 pub four-bytes-in : (bytes : List ℕ) (at : ℕ) → at + 4 ≤ length bytes →
     numberIn (take 4 (drop at bytes)) ≡
     getD bytes at 0 + 256 * getD bytes (at + 1) 0 + 65536 * getD bytes (at + 2) 0 + 16777216 * getD bytes (at + 3) 0
 four-bytes-in bytes at h =
     rw
-    (drop-from bytes at (omega arith), drop-at bytes at 1 (omega arith), drop-at bytes at 2 (omega arith), drop-at bytes at 3 (omega arith))
+    (drop-from bytes at (omega arith), drop-next bytes at 1 (omega arith), drop-next bytes at 2 (omega arith), drop-next bytes at 3 (omega arith))
     (omega arith)

@@ -1,5 +1,6 @@
--- Counts over three numbers, computed: the points with a coordinate 0 are q^m - (q-1)^m. At these points the product of the
--- coordinates is 0, and so the extension of a matrix whose one value stands in its last cell agrees with that of none.
+-- Where one cell in the last corner goes unseen, counted over three numbers: the extension of a matrix with that one value is
+-- the product of the coordinates, so it agrees with that of none at the points that have a coordinate 0. They are
+-- q^m - (q-1)^m.
 use Prim.Native.Nat.{ℕ, _-_, _^_}
 use mathlib.Core.Bool.{Bool, false, _||_}
 use mathlib.Core.List.{List, [], _∷_, map}
