@@ -1,53 +1,27 @@
 -- A record is determined by its kind and its fields, and an answer by what it says.
 use Prim.Native.Nat.{ℕ}
-use mathlib.Core.Bool.{cond}
 use mathlib.Core.List.{List}
 use mathlib.Core.Path.{_≡_, refl, sym, ap, ap₂, _∙_}
-use lib.Dec.{eqb}
-use lib.ListN.{getD}
 use Rattle.refusal.proofs.Outcomes.{refusal-injective, given-not-refused}
-use Rattle.records.specs.Kinds.{kindOf, fieldsOf}
+use Rattle.records.specs.Kinds.{kindOf, fieldsOf, recordOf}
 use Rattle.records.specs.Put.{writtenOutcome}
 use Rattle.records.specs.RoundTrip.{ReadBack}
 use Rattle.records.specs.Take.{Found, takenOutcome, takenAt}
 use Rattle.records.specs.declared.Record.{Record}
-use Rattle.records.specs.declared.Shape.{Shape}
 use Rattle.records.specs.declared.Taken.{Taken}
 use Rattle.records.specs.declared.Written.{Written}
 
-shapeOf : List ℕ → Shape
-shapeOf fields = record { rows = getD fields 0 0; columns = getD fields 1 0 }
-
--- the record of a kind and fields
-recordOf : ℕ → List ℕ → Record
-recordOf kind fields =
-    cond (eqb kind 1) (Record.Head (shapeOf fields))
-    (cond (eqb kind 2) (Record.Sparse (shapeOf fields))
-    (cond (eqb kind 3) (Record.Recursive (shapeOf fields))
-    (cond (eqb kind 4)
-    (Record.Cell
-    (record {
-      row = getD fields 0 0;
-      column = getD fields 1 0;
-      a = getD fields 2 0;
-      b = getD fields 3 0;
-      c = getD fields 4 0;
-    }))
-    (cond (eqb kind 5)
-    (Record.Call (record { id = getD fields 0 0; down = getD fields 1 0; right = getD fields 2 0 }))
-    Record.End))))
-
-back : (r : Record) → recordOf (kindOf r) (fieldsOf r) ≡ r
-unfolding recordOf shapeOf
-back (Record.Head shape) = refl
-back (Record.Sparse shape) = refl
-back (Record.Recursive shape) = refl
-back (Record.Cell cell) = refl
-back (Record.Call call) = refl
-back Record.End = refl
+pub record-back : (r : Record) → recordOf (kindOf r) (fieldsOf r) ≡ r
+unfolding recordOf
+record-back (Record.Head shape) = refl
+record-back (Record.Sparse shape) = refl
+record-back (Record.Recursive shape) = refl
+record-back (Record.Cell cell) = refl
+record-back (Record.Call call) = refl
+record-back Record.End = refl
 
 pub record-determined : (r s : Record) → kindOf r ≡ kindOf s → fieldsOf r ≡ fieldsOf s → r ≡ s
-record-determined r s kinds fields = sym (back r) ∙ ap₂ recordOf kinds fields ∙ back s
+record-determined r s kinds fields = sym (record-back r) ∙ ap₂ recordOf kinds fields ∙ record-back s
 
 pub taken-injective : (r s : Taken) → takenOutcome r ≡ takenOutcome s → r ≡ s
 taken-injective (Taken.Record r m) (Taken.Record s n) e =

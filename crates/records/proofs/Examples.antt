@@ -9,7 +9,7 @@ use Rattle.records.specs.Take.{takenOutcome, takenAs, takenFrom, takenAt
 use Rattle.records.specs.declared.Record.{Record}
 use Rattle.records.specs.declared.Taken.{Taken}
 
-abbrev key : List ℕ
+abbrev pub key : List ℕ
 key =
     0x01 ∷ 0x01 ∷ 0x01 ∷
     0x02 ∷ 0x00 ∷ 0x01 ∷

@@ -5,4 +5,5 @@ pub mod Taking
 pub mod Putting
 pub mod RoundTrip
 pub mod Answers
+pub mod Found
 pub mod Examples

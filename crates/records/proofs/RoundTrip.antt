@@ -98,9 +98,10 @@ module _ (bytes : List ℕ) (are : AreBytes bytes) (at next : ℕ) (r : Record) 
       ∙ bytes-back (widthsOf (getD bytes at 0)) (drop (at + 1) bytes) (bytes-dropped (at + 1) bytes are)
       (omega (arith, length-drop (at + 1) bytes, whole .room))
 
-  source : encoded r ≡ take (next - at) (drop at bytes)
+  -- the bytes that it was taken from
+  pub taken-bytes : encoded r ≡ take (next - at) (drop at bytes)
   unfolding taken widths
-  source =
+  taken-bytes =
       let size : suc (total (widthsOf (getD bytes at 0))) ≡ next - at = omega (arith, end) in
       ap₂ _∷_ (ap (λ (t : Found). t .kind) (whole .is)) body
       ∙ ap (take (suc (total (widthsOf (getD bytes at 0))))) (sym (drop-from bytes at (whole .inside)))
@@ -108,11 +109,11 @@ module _ (bytes : List ℕ) (are : AreBytes bytes) (at next : ℕ) (r : Record) 
 
   length-source : length (encoded r) ≡ next - at
   length-source =
-      ap length source ∙ length-take-le (next - at) (drop at bytes) (omega (arith, onward, length-drop at bytes))
+      ap length taken-bytes ∙ length-take-le (next - at) (drop at bytes) (omega (arith, onward, length-drop at bytes))
 
   unchanged : overwritten (encoded r) bytes at ≡ bytes
   unchanged =
-      ap₂ (λ (b : List ℕ) (n : ℕ). take at bytes ++ b ++ drop (at + n) bytes) source length-source
+      ap₂ (λ (b : List ℕ) (n : ℕ). take at bytes ++ b ++ drop (at + n) bytes) taken-bytes length-source
       ∙ ap (λ (b : List ℕ). b ++ drop (at + (next - at)) bytes) (sym (take-add at (next - at) bytes))
       ∙ take-append-drop (at + (next - at)) bytes
 
@@ -126,7 +127,7 @@ module _ (bytes : List ℕ) (are : AreBytes bytes) (at next : ℕ) (r : Record) 
       record { answer = given (to + (next - at)); buffer = overwritten (take (next - at) (drop at bytes)) buffer to }
   elsewhere buffer to fits =
       record-put r buffer to (omega arith) (omega (arith, length-source))
-      ∙ ap₂ (λ (n : ℕ) (b : List ℕ). record { answer = given (to + n); buffer = overwritten b buffer to }) length-source source
+      ∙ ap₂ (λ (n : ℕ) (b : List ℕ). record { answer = given (to + n); buffer = overwritten b buffer to }) length-source taken-bytes
 
   pub taken-put : Again r bytes at next
   taken-put = record { onward = onward .0; within = onward .1; there = there; elsewhere = elsewhere }

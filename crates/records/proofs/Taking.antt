@@ -96,6 +96,7 @@ module _ (bytes : List ℕ) (at : ℕ) where
 -- a record that was given lies whole in the bytes
 pub record Whole (bytes : List ℕ) (at : ℕ) (t : Found) : Type 0 where
   pub inside : at < length bytes
+  pub known : sizeOf (getD bytes at 0) ≡ 1 + total (widthsOf (getD bytes at 0))
   pub room : at + (1 + total (widthsOf (getD bytes at 0))) ≤ length bytes
   pub is : t ≡ found at (getD bytes at 0) (widthsOf (getD bytes at 0)) (drop (at + 1) bytes)
 
@@ -119,4 +120,4 @@ given-whole bytes at t e =
         let size : sizeOf (getD bytes at 0) ≡ 1 + total (widthsOf (getD bytes at 0)) = size-is bytes at l z in
         let answer : given t ≡ given (found at (getD bytes at 0) (widthsOf (getD bytes at 0)) (drop (at + 1) bytes)) =
         sym e ∙ record-given bytes at l z room in
-        record { inside = l; room = omega arith; is = cc }
+        record { inside = l; known = size; room = omega arith; is = cc }

@@ -1,7 +1,10 @@
 -- The kind and the fields of each of the six cases of a record, in 01's order, and the record's bytes.
 use Prim.Native.Nat.{ℕ}
+use mathlib.Core.Bool.{cond}
 use mathlib.Core.List.{List, [], _∷_}
 use mathlib.Core.Option.{Option·getD}
+use lib.Dec.{eqb}
+use lib.ListN.{getD}
 use Rattle.records.specs.Layout.{layout, lookup, fieldBytes}
 use Rattle.records.specs.declared.Call.{Call}
 use Rattle.records.specs.declared.Cell.{Cell}
@@ -40,3 +43,23 @@ widthsOf kind = Option·getD (lookup layout kind) []
 -- a record's bytes: its kind, and its fields in their widths
 abbrev pub encoded : Record → List ℕ
 encoded r = kindOf r ∷ fieldBytes (widthsOf (kindOf r)) (fieldsOf r)
+
+abbrev pub shapeOf : List ℕ → Shape
+shapeOf fields = record { rows = getD fields 0 0; columns = getD fields 1 0 }
+
+abbrev pub cellOf : List ℕ → Cell
+cellOf fields =
+    record { row = getD fields 0 0; column = getD fields 1 0; a = getD fields 2 0; b = getD fields 3 0; c = getD fields 4 0 }
+
+abbrev pub callOf : List ℕ → Call
+callOf fields = record { id = getD fields 0 0; down = getD fields 1 0; right = getD fields 2 0 }
+
+-- the record of a kind and its fields, the inverse of `kindOf` and `fieldsOf`; an end where there is no such kind
+unfoldable pub recordOf : ℕ → List ℕ → Record
+recordOf kind fields =
+    cond (eqb kind 0x01) (Record.Head (shapeOf fields))
+    (cond (eqb kind 0x02) (Record.Sparse (shapeOf fields))
+    (cond (eqb kind 0x03) (Record.Recursive (shapeOf fields))
+    (cond (eqb kind 0x04) (Record.Cell (cellOf fields))
+    (cond (eqb kind 0x05) (Record.Call (callOf fields))
+    Record.End))))

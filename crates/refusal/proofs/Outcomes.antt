@@ -1,10 +1,13 @@
--- What an outcome determines: a refusal by its number and its place, and that a result is no refusal.
+-- What an outcome determines: a result by its values, a refusal by its number and its place, and that the two differ.
 use Prim.Native.Nat.{ℕ}
 use mathlib.Core.Path.{_≡_}
 use native.Mathlib.Omega.{arith}
 use Rattle.refusal.specs.Outcome.{given, refused, refusalOf}
 use Rattle.refusal.specs.declared.Refusal.{Refusal}
 use Rattle.refusal.proofs.Numbers.{number-injective}
+
+pub given-injective : {A : Type 0} {a b : A} → given a ≡ given b → a ≡ b
+given-injective e = cc
 
 pub refusal-injective : {A : Type 0} (r s : Refusal) → refusalOf {A = A} r ≡ refusalOf s → r ≡ s
 refusal-injective r s e =
