@@ -1,0 +1,4 @@
+pub mod Arrays
+pub mod Totals
+pub mod Placing
+pub mod WellFormed
