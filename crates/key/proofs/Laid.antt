@@ -1,0 +1,115 @@
+-- The bytes of some records are read as those records, one behind the other.
+use Prim.Native.Nat.{ℕ, zero, suc, _+_, _≤_}
+use mathlib.Core.List.{List, [], _∷_, _++_, append-assoc}
+use mathlib.Core.Logic.{_⊎_, inl, inr}
+use mathlib.Core.Path.{_≡_, refl, ap, _∙_}
+use native.Mathlib.Omega.{arith}
+use lib.ListN.{length, length-append}
+use Rattle.refusal.specs.Number.{numberOf}
+use Rattle.refusal.specs.Outcome.{Outcome}
+use Rattle.refusal.specs.declared.Reason.{Reason}
+use Rattle.records.specs.Inner.{Fitting}
+use Rattle.records.specs.Kinds.{encoded}
+use Rattle.records.specs.Take.{Found}
+use Rattle.records.specs.declared.Record.{Record}
+use Rattle.records.proofs.Answers.{record-back}
+use Rattle.records.proofs.RoundTrip.{taken-between}
+use Rattle.records.proofs.Taking.{missing-refused}
+use Rattle.arrays.specs.WellFormed.{Each}
+use Rattle.key.specs.Encoding.{bytesOfAll}
+use Rattle.key.specs.Reading.{Reading, stopped, located, behind, readAt, readFrom, readingOf, locatedIn, items, recordsIn}
+
+-- records one behind the other from an offset on; behind the last no record can be taken
+unfoldable pub laid : ℕ → List Record → Reading
+laid at [] = stopped (numberOf Reason.RecordIncomplete) at
+laid at (r ∷ records) =
+    located
+    (record { item = r; at = at; next = at + length (encoded r) })
+    (behind r (laid (at + length (encoded r)) records))
+
+-- a step reads a record whose bytes stand between any others
+read-between : (r : Record) (before rest : List ℕ) (steps : ℕ) → Fitting r →
+    readFrom (suc steps) (before ++ (encoded r ++ rest)) (length before) ≡
+    located
+    (record { item = r; at = length before; next = length before + length (encoded r) })
+    (behind r (readFrom steps (before ++ (encoded r ++ rest)) (length before + length (encoded r))))
+unfolding readFrom readAt
+read-between r before rest steps fit =
+    ap (λ (o : Outcome Found). readAt (length before) o (readFrom steps (before ++ (encoded r ++ rest))))
+    (taken-between r before rest fit)
+    ∙ ap
+    (λ (item : Record).
+    located
+    (record { item = item; at = length before; next = length before + length (encoded r) })
+    (behind item (readFrom steps (before ++ (encoded r ++ rest)) (length before + length (encoded r)))))
+    (record-back r)
+
+-- so do as many steps as there are records, or more
+read-all : (records : List Record) (before : List ℕ) (steps : ℕ) → Each Fitting records → length records ≤ steps →
+    readFrom steps (before ++ bytesOfAll records) (length before) ≡ laid (length before) records
+unfolding readFrom readAt laid
+read-all [] before zero fit room = refl
+read-all [] before (suc steps) fit room =
+    ap (λ (o : Outcome Found). readAt (length before) o (readFrom steps (before ++ [])))
+    (missing-refused (before ++ []) (length before) (omega (arith, length-append before [])) (omega (arith, length-append before [])))
+read-all (r ∷ records) before zero fit room = absurd (omega arith)
+read-all (r ∷ records) before (suc steps) fit room =
+    read-between r before (bytesOfAll records) steps (fit .0)
+    ∙ ap
+    (λ (rest : Reading).
+    located (record { item = r; at = length before; next = length before + length (encoded r) }) (behind r rest))
+    (rw (append-assoc before (encoded r) (bytesOfAll records), length-append before (encoded r)) at
+    (read-all records (before ++ encoded r) steps (fit .1) (omega arith)))
+
+-- a record has a byte or more
+length-records : (records : List Record) → length records ≤ length (bytesOfAll records)
+length-records [] = omega arith
+length-records (r ∷ records) = omega (arith, length-records records, length-append (encoded r) (bytesOfAll records))
+
+-- the bytes of records that fit are read as those records
+pub reading-laid : (records : List Record) → Each Fitting records → readingOf (bytesOfAll records) ≡ laid 0 records
+reading-laid records fit =
+    read-all records [] (suc (length (bytesOfAll records))) fit (omega (arith, length-records records))
+
+-- ---- records that end with an end
+
+-- a record that is no end
+abbrev pub Onward : Record → Type 0
+Onward (Record.Head shape) = Unit {0}
+Onward (Record.Sparse shape) = Unit {0}
+Onward (Record.Recursive shape) = Unit {0}
+Onward (Record.Cell cell) = Unit {0}
+Onward (Record.Call call) = Unit {0}
+Onward Record.End = ⊥
+
+-- an end or not
+pub ends-or-not : (r : Record) → (r ≡ Record.End) ⊎ Onward r
+ends-or-not (Record.Head shape) = inr tt
+ends-or-not (Record.Sparse shape) = inr tt
+ends-or-not (Record.Recursive shape) = inr tt
+ends-or-not (Record.Cell cell) = inr tt
+ends-or-not (Record.Call call) = inr tt
+ends-or-not Record.End = inl refl
+
+pub behind-onward : (r : Record) → Onward r → (rest : Reading) → behind r rest ≡ rest
+behind-onward (Record.Head shape) onward rest = refl
+behind-onward (Record.Sparse shape) onward rest = refl
+behind-onward (Record.Recursive shape) onward rest = refl
+behind-onward (Record.Cell cell) onward rest = refl
+behind-onward (Record.Call call) onward rest = refl
+behind-onward Record.End onward rest = absurd onward
+
+laid-items : (at : ℕ) (records : List Record) → Each Onward records →
+    items (locatedIn (laid at (records ++ (Record.End ∷ [])))) ≡ records ++ (Record.End ∷ [])
+unfolding laid locatedIn
+laid-items at [] onward = refl
+laid-items at (r ∷ records) onward =
+    ap (λ (rest : Reading). r ∷ items (locatedIn rest))
+    (behind-onward r (onward .0) (laid (at + length (encoded r)) (records ++ (Record.End ∷ []))))
+    ∙ ap (λ (rest : List Record). r ∷ rest) (laid-items (at + length (encoded r)) records (onward .1))
+
+pub records-back : (records : List Record) → Each Onward records → Each Fitting (records ++ (Record.End ∷ [])) →
+    recordsIn (bytesOfAll (records ++ (Record.End ∷ []))) ≡ records ++ (Record.End ∷ [])
+records-back records onward fit =
+    ap (λ (reading : Reading). items (locatedIn reading)) (reading-laid (records ++ (Record.End ∷ [])) fit)
+    ∙ laid-items 0 records onward

@@ -1,0 +1,182 @@
+-- What taking and judging a record means for the answer, from where the walk stands.
+use Prim.Native.Nat.{ℕ, zero, suc, _+_, _≤_, _<_}
+use mathlib.Core.Bool.{true, false}
+use mathlib.Core.List.{List, [], _∷_, _++_, map, map-append, append-nil}
+use mathlib.Core.Path.{_≡_, sym, ap, ap₂, _∙_}
+use native.Mathlib.Omega.{arith}
+use lib.ListN.{length, getD, take, length-append}
+use lib.Seq.{append-snoc}
+use Rattle.refusal.specs.Outcome.{given, refusalOf}
+use Rattle.refusal.specs.declared.Refusal.{Refusal}
+use Rattle.records.specs.Take.{takenOutcome, takenAt}
+use Rattle.records.specs.declared.Record.{Record}
+use Rattle.records.specs.declared.Shape.{Shape}
+use Rattle.records.specs.declared.Taken.{Taken}
+use Rattle.arrays.specs.WellFormed.{Each}
+use Rattle.key.specs.Before.{openingIn, opened, openingAt}
+use Rattle.key.specs.Check.{rulesOf, judged, checkedKey}
+use Rattle.key.specs.Index.{startsIn, startsOf}
+use Rattle.key.specs.Inner.{rowsIn, columnsIn, stored, isEnd, verdictOn, seenIn, after, countsSeen}
+use Rattle.key.specs.Reading.{Located, Reading, located, behind, readFrom, readingOf, locatedIn, items}
+use Rattle.key.specs.declared.Opening.{Opening}
+use Rattle.key.specs.declared.rules.Verdict.{Verdict}
+use Rattle.key.specs.declared.seen.Seen.{Seen}
+use Rattle.key.proofs.Befores.{opened-one, one-opening}
+use Rattle.key.proofs.Kept.{Kept}
+use Rattle.key.proofs.Laid.{Onward, behind-onward}
+use Rattle.key.proofs.Readings.{read-record, read-stopped}
+use Rattle.key.proofs.Seeing.{verdict-judges, verdict-kept, counts-end, is-end, is-onward}
+use Rattle.key.proofs.SeenNext.{seen-next, arrays-next}
+use Rattle.key.proofs.Standing.{Here}
+use Rattle.key.proofs.Tables.{Holds, holds-next, starts-append, stored-length, starts-next}
+use Rattle.key.proofs.Verdicts.{settled}
+
+-- a list of located records with one more
+items-one : (past : List Located) (x : Located) → items (past ++ (x ∷ [])) ≡ items past ++ (x .item ∷ [])
+items-one past x = map-append (λ (y : Located). y .item) past (x ∷ [])
+
+module _ {key rows columns offsets : List ℕ} {seen : Seen} {at : ℕ} (H : Here key rows columns offsets seen at) where
+  -- there is a step left
+  pub record Ready : Type 0 where
+    pub later : ℕ
+    pub enough : length key < at + suc later
+    pub read : locatedIn (readingOf key) ≡ H .past ++ locatedIn (readFrom (suc later) key at)
+    pub same : checkedKey key ≡ judged (length key) (items (H .past)) (readFrom (suc later) key at)
+
+  ready : Ready
+  ready = go (H .steps) (H .enough) (H .read) (H .same)
+    where
+      go : (steps : ℕ) → length key < at + steps → locatedIn (readingOf key) ≡ H .past ++ locatedIn (readFrom steps key at) →
+          checkedKey key ≡ judged (length key) (items (H .past)) (readFrom steps key at) → Ready
+      go zero enough read same = absurd (omega (arith, H .within))
+      go (suc later) enough read same = record { later = later; enough = enough; read = read; same = same }
+
+  -- no record can be taken
+  pub stops : (f : Refusal) → takenAt key at ≡ takenOutcome (Taken.Refused f) → checkedKey key ≡ refusalOf f
+  unfolding judged
+  stops f e = ready .same ∙ ap (judged (length key) (items (H .past))) (read-stopped (ready .later) key at _ _ e)
+
+  module _ (item : Record) (next : ℕ) (e : takenAt key at ≡ takenOutcome (Taken.Record item next)) where
+    this : Located
+    this = record { item = item; at = at; next = next }
+
+    rest : Reading
+    rest = behind item (readFrom (ready .later) key next)
+
+    abbrev verdict : Verdict
+    verdict = verdictOn seen rows columns (length key) at next item
+
+    -- the answer goes by the verdict on the record
+    turns : checkedKey key ≡ settled verdict (judged (length key) (items (H .past) ++ (item ∷ [])) rest)
+    unfolding judged this rest
+    turns =
+        ready .same ∙ ap (judged (length key) (items (H .past))) (read-record (ready .later) key at item next e)
+        ∙ sym (verdict-judges (items (H .past)) rows columns (H .rows-hold) (H .columns-hold) (length key) at next item
+        (judged (length key) (items (H .past) ++ (item ∷ [])) (behind item (readFrom (ready .later) key next))))
+        ∙ ap (λ (s : Seen). settled (verdictOn s rows columns (length key) at next item)
+        (judged (length key) (items (H .past) ++ (item ∷ [])) (behind item (readFrom (ready .later) key next))))
+        (sym (H .seen-is))
+
+    -- the record breaks a rule
+    pub breaks : (f : Refusal) → verdict ≡ Verdict.Refused f → checkedKey key ≡ refusalOf f
+    breaks f v = turns ∙ ap (λ (w : Verdict). settled w (judged (length key) (items (H .past) ++ (item ∷ [])) rest)) v
+
+    module _ (v : verdict ≡ Verdict.Kept) where
+      goes : checkedKey key ≡ judged (length key) (items (H .past) ++ (item ∷ [])) rest
+      goes = turns ∙ ap (λ (w : Verdict). settled w (judged (length key) (items (H .past) ++ (item ∷ [])) rest)) v
+
+      -- the record is the end of an accepted key, and the openings' offsets are all noted
+      pub ends : isEnd item ≡ true → checkedKey key ≡ given (countsSeen seen)
+      unfolding judged rest
+      ends end =
+          goes
+          ∙ ap (λ (r : Record). judged (length key) (items (H .past) ++ (r ∷ [])) (behind r (readFrom (ready .later) key next)))
+          (is-end item end)
+          ∙ ap given (counts-end (items (H .past)) ∙ ap countsSeen (sym (H .seen-is)))
+
+      pub noted : isEnd item ≡ true → startsOf key ≡ take (seen .arrays) offsets
+      unfolding locatedIn startsIn
+      noted end =
+          ap startsIn (ready .read)
+          ∙ starts-append (H .past) (locatedIn (readFrom (suc (ready .later)) key at))
+          ∙ ap (λ (r : Reading). startsIn (H .past) ++ startsIn (locatedIn r)) (read-record (ready .later) key at item next e)
+          ∙ ap (λ (r : Record). startsIn (H .past) ++
+          startsIn (locatedIn (located (record { item = r; at = at; next = next }) (behind r (readFrom (ready .later) key next)))))
+          (is-end item end)
+          ∙ append-nil (startsIn (H .past)) ∙ sym (H .offsets-hold)
+          ∙ ap (λ (s : Seen). take (s .arrays) offsets) (sym (H .seen-is))
+
+    -- the record keeps its rules and is no end, and the walk goes on behind it
+    module _ (v : verdict ≡ Verdict.Kept) (no-end : isEnd item ≡ false) (forward : at < next) (inside : next ≤ length key) where
+      before : List Record
+      before = items (H .past)
+
+      kept : Each Kept (rulesOf before item)
+      unfolding before
+      kept =
+          verdict-kept (items (H .past)) rows columns (H .rows-hold) (H .columns-hold) (length key) at next item
+          (ap (λ (s : Seen). verdictOn s rows columns (length key) at next item) (sym (H .seen-is)) ∙ v)
+
+      on : Onward item
+      on = is-onward item no-end
+
+      reads-on : rest ≡ readFrom (ready .later) key next
+      unfolding rest
+      reads-on = behind-onward item on (readFrom (ready .later) key next)
+
+      openings : opened (items (H .past ++ (this ∷ []))) ≡ opened before ++ openingIn item
+      unfolding this before
+      openings = ap opened (items-one (H .past) this) ∙ opened-one (items (H .past)) item
+
+      more : items (H .past ++ (this ∷ [])) ≡ before ++ (item ∷ [])
+      unfolding this before
+      more = items-one (H .past) (record { item = item; at = at; next = next })
+
+      arrays-are : seen .arrays ≡ length (opened before)
+      unfolding before
+      arrays-are = ap (λ (s : Seen). s .arrays) (H .seen-is)
+
+      arrays-fit : length (opened before ++ openingIn item) ≤ 1024
+      unfolding before
+      arrays-fit = arrays-next before item kept (H .arrays-most)
+
+      held : (number : Shape → ℕ) (table : List ℕ) → length table ≡ 1024 → Holds number table (opened before) →
+          Holds number (stored number table (seen .arrays) (openingIn item)) (opened (items (H .past ++ (this ∷ []))))
+      held number table long holds i =
+          ap (λ (n : ℕ). getD (stored number table n (openingIn item)) i 0) arrays-are
+          ∙ holds-next number table (opened before) (openingIn item) (one-opening item) (omega (arith, arrays-fit)) holds i
+          ∙ ap (λ (os : List Opening). number (openingAt os i .shape)) (sym openings)
+
+      pub goes-on :
+          Here key (stored rowsIn rows (seen .arrays) (openingIn item)) (stored columnsIn columns (seen .arrays) (openingIn item))
+          (stored (λ shape. at) offsets (seen .arrays) (openingIn item)) (after seen item) next
+      unfolding before this locatedIn startsIn
+      goes-on =
+          record {
+            past = H .past ++ (this ∷ []);
+            steps = ready .later;
+            within = inside;
+            enough = omega (arith, ready .enough);
+            few = omega (arith, length-append (H .past) (this ∷ []), H .few);
+            arrays-most = omega (arith, ap length openings, arrays-fit);
+            seen-is =
+                ap (λ (s : Seen). after s item) (H .seen-is) ∙ seen-next before item on kept ∙ ap seenIn (sym more);
+            rows-length = stored-length rowsIn rows (seen .arrays) (openingIn item) ∙ H .rows-length;
+            columns-length = stored-length columnsIn columns (seen .arrays) (openingIn item) ∙ H .columns-length;
+            offsets-length = stored-length (λ shape. at) offsets (seen .arrays) (openingIn item) ∙ H .offsets-length;
+            rows-hold = held rowsIn rows (H .rows-length) (H .rows-hold);
+            columns-hold = held columnsIn columns (H .columns-length) (H .columns-hold);
+            offsets-hold =
+                ap₂ (λ (os : List Opening) (n : ℕ). take (length os) (stored (λ shape. at) offsets n (openingIn item))) openings arrays-are
+                ∙ starts-next (opened before) (openingIn item) offsets at (one-opening item) (omega (arith, arrays-fit, H .offsets-length))
+                ∙ ap (λ (s : List ℕ). s ++ map (λ opening. at) (openingIn item)) (H .offsets-hold)
+                ∙ ap (λ (s : List ℕ). startsIn (H .past) ++ s) (sym (append-nil (map (λ opening. at) (openingIn item))))
+                ∙ sym (starts-append (H .past) (this ∷ []));
+            read =
+                ready .read
+                ∙ ap (λ (r : Reading). H .past ++ locatedIn r)
+                (read-record (ready .later) key at item next e
+                ∙ ap (located this) (behind-onward item on (readFrom (ready .later) key next)))
+                ∙ sym (append-snoc (H .past) this (locatedIn (readFrom (ready .later) key next)));
+            same = goes v ∙ ap₂ (judged (length key)) (sym more) reads-on;
+          }

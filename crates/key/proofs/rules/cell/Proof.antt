@@ -1,0 +1,45 @@
+-- `key::rules::cell` meets its contract: each rule is tried in turn.
+use borrow.Author.Needs.{needs}
+use Rattle.key.proofs.rules.cell.Statement.{statement}
+use Rattle.key.proofs.rules.cell.Tie as tie
+
+unless-requires : tie.Need-unless-requires
+unless-requires c κs = search needs
+
+outside-requires : tie.Need-outside-requires
+outside-requires c κs = search needs
+
+unless-requires-2 : tie.Need-unless-requires-2
+unless-requires-2 c κs = search needs
+
+outside-requires-2 : tie.Need-outside-requires-2
+outside-requires-2 c κs = search needs
+
+unless-requires-3 : tie.Need-unless-requires-3
+unless-requires-3 c κs = search needs
+
+unless-requires-4 : tie.Need-unless-requires-4
+unless-requires-4 c κs = search needs
+
+unless-requires-5 : tie.Need-unless-requires-5
+unless-requires-5 c κs = search needs
+
+unless-requires-6 : tie.Need-unless-requires-6
+unless-requires-6 c κs = search needs
+
+returns : tie.Need-returns
+returns c = cc
+
+pub cell-spec : {M : Type 1} → statement M
+cell-spec =
+    tie.close
+    (tie.spec
+    unless-requires
+    outside-requires
+    unless-requires-2
+    outside-requires-2
+    unless-requires-3
+    unless-requires-4
+    unless-requires-5
+    unless-requires-6
+    returns)

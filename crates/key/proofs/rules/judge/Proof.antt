@@ -1,0 +1,102 @@
+-- `key::rules::judge` meets its contract: in each arm the record's case is known.
+use borrow.Author.Needs.{needs}
+use Rattle.key.specs.Check.{rulesBehind}
+use Rattle.key.proofs.rules.judge.Statement.{statement}
+use Rattle.key.proofs.rules.judge.Tie as tie
+
+enum-known-item : tie.Need-enum-known-item
+enum-known-item c = search needs
+
+head-requires : tie.Need-head-requires
+head-requires c κs = search needs
+
+enum-known-item-2 : tie.Need-enum-known-item-2
+enum-known-item-2 c = search needs
+
+opening-requires : tie.Need-opening-requires
+opening-requires c κs = search needs
+
+enum-known-item-3 : tie.Need-enum-known-item-3
+enum-known-item-3 c = search needs
+
+opening-requires-2 : tie.Need-opening-requires-2
+opening-requires-2 c κs = search needs
+
+enum-known-item-4 : tie.Need-enum-known-item-4
+enum-known-item-4 c = search needs
+
+cell-requires : tie.Need-cell-requires
+cell-requires c κs = search needs
+
+enum-known-item-5 : tie.Need-enum-known-item-5
+enum-known-item-5 c = search needs
+
+cast-id : tie.Need-cast-id
+cast-id c = search needs
+
+number-at-requires : tie.Need-number-at-requires
+number-at-requires c κs = search needs
+
+number-at-requires-2 : tie.Need-number-at-requires-2
+number-at-requires-2 c κs = search needs
+
+call-requires : tie.Need-call-requires
+call-requires c κs = search needs
+
+enum-told : tie.Need-enum-told
+enum-told c = search needs
+
+end-requires : tie.Need-end-requires
+end-requires c κs = search needs
+
+returns : tie.Need-returns
+unfolding rulesBehind
+returns c = rw (c .before .before .item .given .1) (c .head .ensures)
+
+returns-2 : tie.Need-returns-2
+unfolding rulesBehind
+returns-2 c = rw (c .before .before .item2 .given .1) (c .opening .ensures)
+
+returns-3 : tie.Need-returns-3
+unfolding rulesBehind
+returns-3 c = rw (c .before .before .item3 .given .1) (c .opening2 .ensures)
+
+returns-4 : tie.Need-returns-4
+unfolding rulesBehind
+returns-4 c = rw (c .before .before .item4 .given .1) (c .cell .ensures)
+
+returns-5 : tie.Need-returns-5
+unfolding rulesBehind
+returns-5 c =
+    let called = rw (c .before .before .number-at .ensures, c .before .number-at2 .ensures) at (c .call .ensures) in
+    rw (c .before .before .before .before .before .item5 .given .1) called
+
+returns-6 : tie.Need-returns-6
+unfolding rulesBehind
+returns-6 c = rw (c .before .enum-told .given .1) (c .end .ensures)
+
+pub judge-spec : {M : Type 1} → statement M
+judge-spec =
+    tie.close
+    (tie.spec
+    enum-known-item
+    head-requires
+    enum-known-item-2
+    opening-requires
+    enum-known-item-3
+    opening-requires-2
+    enum-known-item-4
+    cell-requires
+    enum-known-item-5
+    cast-id
+    number-at-requires
+    number-at-requires-2
+    call-requires
+    enum-told
+    end-requires
+    returns
+    returns-2
+    returns-3
+    returns-4
+    returns-5
+    returns-6)
