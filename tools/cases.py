@@ -4,28 +4,49 @@
 usage: cases.py [--check | --help]
 
 Without --check it writes crates/cases/stdin and crates/cases/stdout; with it, it says whether they are up to date and
-exits 1 where they are not. Edges that 01 words are written here with the answer that 01 gives; sweeps around them are
-worked out by the few functions below, which know the layout and the refusals from 01 and nothing of the Rattle code.
+exits 1 where they are not. Edges that 01 words are written here with the answer that 01 gives; every answer, of these
+and of the sweeps around them, is worked out by model.py from 01, and the two must agree.
 """
 
+import itertools
 import pathlib
 import struct
 import sys
 
-P = 2**31 - 1
-TOP = 2**32 - 1
-FOLDER = pathlib.Path(__file__).resolve().parent.parent / "crates" / "cases"
+from model import (
+    KINDS,
+    LAYOUT,
+    P,
+    SAMPLE,
+    TOP,
+    accepted,
+    arithmetic,
+    byte_words,
+    check,
+    encode,
+    joined,
+    key,
+    key_words,
+    larger,
+    put,
+    refused,
+    take,
+    words,
+)
 
-# 01, 'Records': each kind's name and the widths of its fields in bytes.
-LAYOUT = {
-    1: ("head", (1, 1)),
-    2: ("sparse", (1, 1)),
-    3: ("recursive", (1, 1)),
-    4: ("cell", (4, 4, 4, 4, 4)),
-    5: ("call", (2, 4, 4)),
-    6: ("end", ()),
+FOLDER = pathlib.Path(__file__).resolve().parent.parent / "crates" / "cases"
+OPERATIONS = {"sum": 1, "difference": 2, "product": 3, "take": 4, "put": 5, "check": 6}
+
+# 01, 'An accepted key': beginnings of a key, and the records that may follow each.
+FOLLOWING = {
+    "": ("head",),
+    "head 1 1": ("sparse", "recursive"),
+    "head 1 1, sparse 1 1": ("sparse", "recursive", "cell", "end"),
+    "head 1 1, sparse 1 1, cell 1 1 1 2 3": ("sparse", "recursive", "cell", "end"),
+    "head 1 1, sparse 1 1, recursive 1 1": ("sparse", "recursive", "call", "end"),
+    "head 1 1, sparse 1 1, recursive 1 1, call 0 0 0": ("sparse", "recursive", "call", "end"),
+    "head 1 1, sparse 1 1, recursive 1 1, sparse 1 1": ("sparse", "recursive", "cell", "end"),
 }
-OPERATIONS = {"sum": 1, "difference": 2, "product": 3, "take": 4, "put": 5}
 
 
 class Draw:
@@ -47,55 +68,8 @@ class Draw:
         return bytes(self.below(256) for _ in range(count))
 
 
-def refused(number, place):
-    """A refusal as the program prints it."""
-    return f"refused {number} at {place}"
-
-
-def arithmetic(operation, a, b):
-    """What the sum, the difference or the product of two numbers answers."""
-    for place, operand in enumerate((a, b)):
-        if operand >= P:
-            return refused(34, place)
-    return str({"sum": a + b, "difference": a - b, "product": a * b}[operation] % P)
-
-
-def encode(kind, fields):
-    """The bytes of a record."""
-    widths = LAYOUT[kind][1]
-    return bytes([kind]) + b"".join(x.to_bytes(w, "little") for w, x in zip(widths, fields, strict=True))
-
-
-def take(data, at):
-    """What taking the record at an offset answers."""
-    if at > len(data):
-        return refused(33, len(data))
-    if at == len(data):
-        return refused(2, at)
-    if data[at] not in LAYOUT:
-        return refused(3, at)
-    name, widths = LAYOUT[data[at]]
-    words, place = [name], at + 1
-    for width in widths:
-        if len(data) < place + width:
-            return refused(2, at)
-        words.append(str(int.from_bytes(data[place : place + width], "little")))
-        place += width
-    return " ".join(words + ["next", str(place)])
-
-
-def put(kind, fields, data, at):
-    """What putting a record at an offset of a buffer answers, and the buffer's bytes afterwards."""
-    record = encode(kind, fields)
-    if at > len(data):
-        return refused(33, len(data)), data
-    if len(record) > len(data) - at:
-        return refused(32, len(record)), data
-    return f"next {at + len(record)}", data[:at] + record + data[at + len(record) :]
-
-
 def agreed(wanted, answer):
-    """The answer worked out here, which must be the one that is worded, where one is."""
+    """The answer worked out by the model, which must be the one that is worded, where one is."""
     if wanted not in (None, answer):
         raise ValueError(f"worded {wanted!r}, worked out {answer!r}")
     return answer
@@ -134,10 +108,16 @@ class Cases:
         answer, after = put(kind, fields, bytes(zeros) + data, at)
         agreed(wanted, answer)
         front = f"{zeros} zeros and " if zeros else ""
-        name = " ".join([LAYOUT[kind][0], *map(str, fields)])
-        text = f"put {name} into {front}{data.hex() or 'nothing'} at {at}"
+        text = f"put {words(LAYOUT[kind][0], fields)} into {front}{data.hex() or 'nothing'} at {at}"
         wanted_text = f"{answer} buffer {after[zeros:].hex()}"
         self.add(text, wanted_text, "put", x=at, kind=kind, fields=fields, zeros=zeros, data=data)
+
+    def check(self, text, wanted=None):
+        """A check of a key in words; its first bytes, as far as they are 0, are the case's zeros."""
+        data = key(text)
+        rest = data.lstrip(b"\0")
+        answer = agreed(wanted, check(data))
+        self.add(f"check {text or 'nothing'}", answer, "check", zeros=len(data) - len(rest), data=rest)
 
 
 def field_cases(cases, draw):
@@ -222,6 +202,284 @@ def put_cases(cases, draw):
         cases.put(kind, fields, data, draw.below(len(data) + 3))
 
 
+def check_limits(cases):
+    """01, 'Edges': the empty key and the sample, the length of a key and the number of its arrays."""
+    cases.check("", refused(2, 0))
+    cases.check(byte_words(SAMPLE), accepted(2, 1, 2, 1, 1))
+    longest = "head 30 30, 4 times sparse 30 30, 3120 times cell 1 2 3 4 5, end"
+    cases.check(longest, accepted(4, 3120, 0, 30, 30))
+    cases.check(f"{longest}, bytes 00", refused(1, 65536))
+    without_end = "head 30 30, sparse 30 30, recursive 30 30, 2 times call 0 0 0, 2 times sparse 30 30, 3119 times cell 1 2 3 4 5"
+    cases.check(without_end, refused(2, 65536))
+    cases.check("head 30 30, 4 times sparse 30 30, end, 65520 times bytes 00", refused(13, 16))
+    cases.check("65536 times bytes 00", refused(3, 0))
+    cases.check("65537 times bytes 00", refused(1, 65536))
+    cases.check("131071 times bytes 00", refused(1, 65536))
+    most = "head 2 1, 1022 times sparse 0 0, sparse 1 1, recursive 2 1"
+    cases.check(f"{most}, call 1022 1 0, end", accepted(1024, 0, 1, 2, 1))
+    cases.check(f"{most}, call 1022 2 0, end", refused(11, 3075))
+    cases.check(f"{most}, call 1023 0 0, end", refused(9, 3075))
+    cases.check(f"{most}, bytes 0300", refused(2, 3075))
+
+
+def check_places(cases):
+    """Numbers 2, 3 and 4: no byte, an unknown kind, and each record, whole and cut, behind each beginning of a key."""
+    for front, following in FOLLOWING.items():
+        place = len(key(front))
+        cases.check(front, refused(2, place))
+        for unknown in ("bytes 00", "bytes 07", "bytes ff06"):
+            cases.check(joined(front, unknown), refused(3, place))
+        for record in ("head 1 1", "sparse 1 1", "recursive 1 1", "cell 0 0 0 0 0", "call 0 0 0", "end"):
+            length = len(key(record))
+            if record.split()[0] not in following:
+                cases.check(joined(front, record), refused(4, place))
+            elif record != "end":
+                cases.check(joined(front, record), refused(2, place + length))
+            for cut in sorted({1, length - 1} & set(range(1, length))):
+                cases.check(joined(front, byte_words(key(record)[:cut])), refused(2, place))
+
+
+def check_heads(cases):
+    """Number 5 in a head, and 4 before it."""
+    for rows, columns in itertools.product((0, 30, 31, 255), repeat=2):
+        head = f"head {rows} {columns}"
+        wanted = refused(5, 0) if max(rows, columns) > 30 else accepted(1, 0, 0, rows, columns)
+        cases.check(f"{head}, sparse {rows} {columns}, end", wanted)
+        cases.check(f"head 30 30, {head}, sparse 30 30, end", refused(4, 3))
+        cases.check(f"head 30 30, sparse 30 30, {head}, end", refused(4, 6))
+
+
+def check_openings(cases):
+    """Number 5 in an opening, with 4 and 6 before it."""
+    for name, rows, columns in itertools.product(("sparse", "recursive"), (2, 3), (1, 2)):
+        opening = f"{name} {rows} {columns}"
+        wanted = refused(5, 3) if rows == 3 or columns == 2 else accepted(2, 0, 0, 2, 1)
+        cases.check(f"head 2 1, {opening}, sparse 2 1, end", wanted)
+    for opening in ("sparse 2 1", "sparse 3 1", "recursive 2 2"):
+        cases.check(f"head 2 1, 1024 times sparse 0 0, {opening}, end", refused(6, 3075))
+    cases.check("head 2 1, 1024 times sparse 0 0, head 2 1", refused(4, 3075))
+    for name in ("sparse", "recursive"):
+        for bits in ("0 0", "31 0", "0 31", "255 255"):
+            cases.check(f"{name} {bits}, end", refused(4, 0))
+        for bits in ("0 0", "1 1", "2 0"):
+            cases.check(f"head 2 1, {name} {bits}, {name} 2 1, end", accepted(2, 0, 0, 2, 1))
+        for bits in ("1 2", "31 0", "0 31", "255 255"):
+            cases.check(f"head 2 1, {name} {bits}, {name} 2 1, end", refused(5, 3))
+        for bits in ("31 30", "30 31"):
+            cases.check(f"head 30 30, {name} {bits}, {name} 30 30, end", refused(5, 3))
+
+
+def check_cells(cases):
+    """Numbers 7 and 8 at their edges."""
+    for bits, number in itertools.product((0, 1, 8, 30), (-1, 0, 1, TOP)):
+        address = min(2**bits + number, TOP)
+        wanted = refused(7, 6) if address >= 2**bits else accepted(1, 1, 0, bits, bits)
+        for fields in ((address, 0), (0, address)):
+            cases.check(f"head {bits} {bits}, sparse {bits} {bits}, {words('cell', fields)} 1 2 3, end", wanted)
+    for row, column in itertools.product((1, 2), (7, 8)):
+        wanted = refused(7, 6) if row == 2 or column == 8 else accepted(2, 1, 0, 3, 3)
+        cases.check(f"head 3 3, sparse 1 3, cell {row} {column} 1 2 3, sparse 3 3, end", wanted)
+    for value in (P - 1, P, P + 1, TOP):
+        wanted = refused(8, 6) if value >= P else accepted(1, 1, 0, 0, 0)
+        for values in ((value, 0, 0), (0, value, 0), (0, 0, value)):
+            cases.check(f"head 0 0, sparse 0 0, {words('cell 0 0', values)}, end", wanted)
+
+
+def check_cell_faults(cases):
+    """Each fault and each two faults of a cell, where it is allowed and where it is not."""
+    good, bad = (3, 3, P - 1, P - 1, P - 1), (4, 4, P, P, P)
+    for places in itertools.combinations_with_replacement(range(5), 2):
+        cell = words("cell", (bad[i] if i in places else good[i] for i in range(5)))
+        cases.check(f"head 2 2, sparse 2 2, {cell}, end", refused(7 if places[0] < 2 else 8, 6))
+        for front in ("", "head 2 2", "head 2 2, sparse 2 2, recursive 2 2"):
+            cases.check(joined(front, cell), refused(4, len(key(front))))
+
+
+def check_calls(cases):
+    """Numbers 9, 10 and 11 at their edges."""
+    for called in (0, 1, 2, 3, 4, 256, 258, 65535):
+        wanted = refused(9, 15) if called >= 3 else accepted(4, 0, 1, 0, 0)
+        cases.check(f"head 0 0, 3 times sparse 0 0, recursive 0 0, call {called} 0 0, end", wanted)
+    cases.check("head 0 0, recursive 0 0, call 0 0 0, end", refused(9, 6))
+    cases.check("head 0 0, recursive 0 0, call 1 0 0, sparse 0 0, end", refused(9, 6))
+    for called, own in (("2 1", "1 2"), ("1 2", "2 1"), ("1 0", "0 2"), ("0 1", "2 0"), ("2 2", "1 1")):
+        cases.check(f"head 2 2, sparse {called}, recursive {own}, call 0 0 0, sparse 2 2, end", refused(10, 9))
+    for K, k, greatest in ((1, 3, 3), (3, 3, 0), (0, 0, 0), (29, 30, 1), (0, 30, 2**30 - 1)):
+        for position in (greatest, greatest + 1, 2**31, TOP):
+            wanted = refused(11, 9) if position > greatest else accepted(2, 0, 1, k, k)
+            for positions in ((position, 0), (0, position), (position, greatest), (greatest, position)):
+                call = words("call 0", positions)
+                cases.check(f"head {k} {k}, sparse {K} {K}, recursive {k} {k}, {call}, end", wanted)
+    for down, right in itertools.product((0, 1), repeat=2):
+        wanted = refused(11, 909) if down or right else accepted(302, 0, 1, 1, 1)
+        cases.check(f"head 1 1, 300 times sparse 0 0, sparse 1 1, recursive 1 1, call 300 {down} {right}, end", wanted)
+    for down, right in itertools.product((1, 2), (7, 8)):
+        wanted = refused(11, 9) if down == 2 or right == 8 else accepted(3, 0, 1, 3, 3)
+        cases.check(f"head 3 3, recursive 1 0, recursive 2 3, call 0 {down} {right}, sparse 3 3, end", wanted)
+
+
+def check_call_faults(cases):
+    """Each fault and each two faults of a call, where it is allowed and where it is not."""
+    # The call is in array 4. Of the arrays before it only array 0 is not larger, and array 5 comes later.
+    front, rest = "head 3 3, sparse 1 1, sparse 3 1, sparse 1 3, sparse 3 3", "sparse 3 3, end"
+    numbers = {0: 11, 1: 10, 2: 10, 3: 10, 4: 9, 5: 9, 6: 9, 65535: 9}
+    for called, down, right in itertools.product(numbers, (0, 2), (0, 2)):
+        call = f"call {called} {down} {right}"
+        wanted = accepted(6, 0, 1, 3, 3) if (called, down, right) == (0, 0, 0) else refused(numbers[called], 18)
+        cases.check(f"{front}, recursive 2 2, {call}, {rest}", wanted)
+        cases.check(f"{front}, sparse 2 2, {call}, {rest}", refused(4, 18))
+    for called, down, right in itertools.product((0, 1, 65535), (0, TOP), (0, TOP)):
+        cases.check(f"call {called} {down} {right}", refused(4, 0))
+        cases.check(f"head 3 3, call {called} {down} {right}", refused(4, 3))
+
+
+def check_ends(cases):
+    """Numbers 12 and 13, with 4 before them."""
+    for after in ("", "bytes 00", "end", "bytes 04ff", "cell 0 0 1 2 3", "head 2 1, sparse 2 1, end"):
+        wanted = refused(13, 7) if after else accepted(1, 0, 0, 2, 1)
+        for name in ("sparse", "recursive"):
+            cases.check(joined(f"head 2 1, {name} 2 1, end", after), wanted)
+            for bits in ("1 1", "2 0", "1 0"):
+                cases.check(joined(f"head 2 1, {name} {bits}, end", after), refused(12, 6))
+        cases.check(joined("head 2 1, sparse 2 1, sparse 1 1, end", after), refused(12, 9))
+        cases.check(joined("head 2 1, end", after), refused(4, 3))
+        cases.check(joined("end", after), refused(4, 0))
+    cases.check("head 0 0, sparse 0 0, cell 0 0 1 2 3, end, 1000 times bytes 00", refused(13, 28))
+
+
+def check_first_faults(cases):
+    """Checking stops at the first record with a fault, whatever the number of a later one."""
+    anywhere = {3: "bytes 07", 4: "head 3 3", 5: "sparse 4 3", 12: "end"}
+    cells = {7: "cell 0 4 0 0 0", 8: f"cell 0 0 0 0 {P}"}
+    calls = {9: "call 2 0 0", 10: "call 0 0 0", 11: "call 1 0 2"}
+    for front, faulty in (
+        ("head 3 3, sparse 2 2", anywhere | cells),
+        ("head 3 3, sparse 3 3, sparse 1 1, recursive 2 2", anywhere | calls),
+    ):
+        for number, other in itertools.permutations(faulty, 2):
+            cases.check(f"{front}, {faulty[number]}, {faulty[other]}", refused(number, len(key(front))))
+
+
+def check_accepted(cases):
+    """Keys that are accepted although something in them is empty, uncalled or repeated."""
+    for name in ("sparse", "recursive"):
+        for bits in ((0, 0), (0, 3), (3, 0), (1, 2)):
+            cases.check(f"{words('head', bits)}, {words(name, bits)}, end", accepted(1, 0, 0, *bits))
+    # Two cells at one place, and calls that overlap.
+    cells = "sparse 1 1, 2 times cell 1 1 5 6 7, cell 0 1 0 0 0"
+    cases.check(f"head 1 1, {cells}, end", accepted(1, 3, 0, 1, 1))
+    cases.check(f"head 1 1, {cells}, recursive 1 1, 3 times call 0 0 0, end", accepted(2, 3, 3, 1, 1))
+    # A sparse last array, and a recursive one without calls: the arrays before are not called.
+    cases.check(f"head 1 1, {cells}, recursive 1 1, call 0 0 0, {cells}, end", accepted(3, 6, 1, 1, 1))
+    cases.check(f"head 2 1, {cells}, recursive 2 1, call 0 1 0, recursive 2 1, end", accepted(3, 3, 1, 2, 1))
+    # Calls of empty arrays, and of arrays in any order.
+    cases.check("head 2 0, recursive 0 0, recursive 1 0, call 0 1 0, sparse 2 0, end", accepted(3, 0, 1, 2, 0))
+    cases.check("head 0 0, 4 times sparse 0 0, recursive 0 0, call 3 0 0, call 0 0 0, end", accepted(5, 0, 2, 0, 0))
+    # The counts are over records, of which few describe 2^30 rows.
+    levels = ", ".join(f"recursive {i} 0, call {i - 1} 0 0, call {i - 1} 1 0" for i in range(1, 31))
+    cases.check(f"head 30 0, sparse 0 0, cell 0 0 1 2 3, {levels}, end", accepted(31, 1, 60, 30, 0))
+
+
+def check_cut(cases):
+    """Two keys with records of every kind, cut at every length, and one of them with each byte changed."""
+    other = key("head 2 1, recursive 0 0, sparse 1 1, cell 1 0 1 2 3, recursive 2 1, call 1 1 0, call 0 3 1, end")
+    for data in (SAMPLE, other):
+        for length in range(len(data)):
+            cases.check(key_words(data[:length]))
+    for at, byte in enumerate(other):
+        cases.check(key_words(other[:at] + bytes([byte ^ 1]) + other[at + 1 :]))
+
+
+def drawn_below(draw, bound):
+    """A number below `bound`, half the time the greatest."""
+    return bound - 1 if draw.below(2) else draw.below(bound)
+
+
+def drawn_cell(draw, bits):
+    """A cell that an array of these bits may have."""
+    return "cell", tuple(drawn_below(draw, bound) for bound in (2 ** bits[0], 2 ** bits[1], P, P, P))
+
+
+def drawn_call(draw, bits, called, shape):
+    """A call, that an array of these bits may have, of an array of that shape."""
+    return "call", (called, *(drawn_below(draw, 2 ** (k - K)) for k, K in zip(bits, shape)))
+
+
+def drawn_array(draw, bits, shapes):
+    """The records of an array of these bits that may stand behind arrays of those shapes."""
+    if draw.below(2):
+        return [("sparse", bits), *(drawn_cell(draw, bits) for _ in range(draw.below(3)))]
+    earlier = [i for i, shape in enumerate(shapes) if not larger(shape, bits)]
+    chosen = [earlier[draw.below(len(earlier))] for _ in range(draw.below(4)) if earlier]
+    return [("recursive", bits), *(drawn_call(draw, bits, called, shapes[called]) for called in chosen)]
+
+
+def drawn_key(draw):
+    """The records of an accepted key of few arrays."""
+    head = (draw.below(4), draw.below(4))
+    shapes = [tuple(draw.below(n + 1) for n in head) for _ in range(draw.below(4))] + [head]
+    arrays = [drawn_array(draw, bits, shapes[:i]) for i, bits in enumerate(shapes)]
+    return [("head", head), *itertools.chain(*arrays), ("end", ())]
+
+
+def encoded(records):
+    """The bytes of a key's records."""
+    return b"".join(encode(KINDS[name], fields) for name, fields in records)
+
+
+def counted(records):
+    """What an accepted key is answered with, by its records."""
+    names = [name for name, _ in records]
+    arrays = names.count("sparse") + names.count("recursive")
+    return accepted(arrays, names.count("cell"), names.count("call"), *records[0][1])
+
+
+def raised(draw, records):
+    """The records, with one field greater by one."""
+    i = draw.below(len(records) - 1)
+    name, fields = records[i]
+    j = draw.below(len(fields))
+    return [*records[:i], (name, (*fields[:j], fields[j] + 1, *fields[j + 1 :])), *records[i + 1 :]]
+
+
+def moved(draw, records):
+    """The records, one of them at another place."""
+    others = list(records)
+    record = others.pop(draw.below(len(records)))
+    others.insert(draw.below(len(records)), record)
+    return others
+
+
+def check_sweep(cases, draw):
+    """Drawn keys, whole and with a field raised, a record moved, a byte changed or a byte removed."""
+    for _ in range(50):
+        records = drawn_key(draw)
+        data = encoded(records)
+        cases.check(key_words(data), counted(records))
+        cases.check(key_words(encoded(raised(draw, records))))
+        cases.check(key_words(encoded(moved(draw, records))))
+        at = draw.below(len(data))
+        cases.check(key_words(data[:at] + bytes([draw.below(8) or draw.below(256)]) + data[at + 1 :]))
+        cases.check(key_words(data[:at] + data[at + 1 :]))
+
+
+def check_cases(cases, draw):
+    """01, 'An accepted key' and the order of check: 1; of a record 2 for no byte, 3, 2, 4, 6, 5, 7 to 12; 13."""
+    check_limits(cases)
+    check_places(cases)
+    check_heads(cases)
+    check_openings(cases)
+    check_cells(cases)
+    check_cell_faults(cases)
+    check_calls(cases)
+    check_call_faults(cases)
+    check_ends(cases)
+    check_first_faults(cases)
+    check_accepted(cases)
+    check_cut(cases)
+    check_sweep(cases, draw)
+
+
 def main(arguments):
     """Writes the two files, or holds them to what it would write."""
     if arguments == ["--help"]:
@@ -234,6 +492,7 @@ def main(arguments):
     field_cases(cases, draw)
     take_cases(cases, draw)
     put_cases(cases, draw)
+    check_cases(cases, draw)
     files = {
         FOLDER / "stdin": struct.pack("<I", len(cases.inputs)) + b"".join(cases.inputs),
         FOLDER / "stdout": b"".join(cases.lines),

@@ -28,6 +28,7 @@ fn on(header: Header, buffer: &mut [u8]) {
         1 | 2 | 3 => print::answer(arithmetic(header)),
         4 => print::taken(records::take(buffer, at)),
         5 => put(header, buffer),
+        6 => print::checked(key::check(buffer)),
         _ => {}
     }
 }

@@ -1,5 +1,7 @@
 // What was got, as text.
 use field::Answer;
+use key::Checked;
+use key::Counts;
 use records::Record;
 use records::Shape;
 use records::Taken;
@@ -50,6 +52,14 @@ pub(crate) fn written(got: Written) {
     }
 }
 
+// The counts of an accepted key, or a refusal.
+pub(crate) fn checked(got: Checked) {
+    match got {
+        Checked::Accepted(c) => counts(c),
+        Checked::Refused(r) => refusal(r),
+    }
+}
+
 // The bytes of a buffer from an offset on, in hexadecimal.
 pub(crate) fn bytes(buffer: &[u8], from: usize) {
     let mut i = from;
@@ -95,6 +105,19 @@ fn record(item: Record) {
             io::write_all(1, b"end ");
         }
     }
+}
+
+fn counts(c: Counts) {
+    io::write_all(1, b"arrays ");
+    number(c.arrays as u64);
+    io::write_all(1, b" cells ");
+    number(c.cells as u64);
+    io::write_all(1, b" calls ");
+    number(c.calls as u64);
+    io::write_all(1, b" rows ");
+    number(c.rows as u64);
+    io::write_all(1, b" columns ");
+    number(c.columns as u64);
 }
 
 fn shape(s: Shape) {
