@@ -1,6 +1,6 @@
 -- What it means that a key is accepted.
 use Prim.Native.Nat.{ℕ, suc, _+_, _-_, _≤_}
-use mathlib.Core.List.{List, [], _∷_, _++_, append-nil}
+use mathlib.Core.List.{flatMap, List, [], _∷_, _++_, append-nil}
 use mathlib.Core.Path.{_≡_, sym, ap, subst, _∙_}
 use native.Mathlib.Omega.{arith}
 use lib.ListN.{length, getD, length-append, drop-of-length-le}
@@ -9,6 +9,7 @@ use Rattle.records.specs.Kinds.{encoded}
 use Rattle.records.specs.Take.{takenOutcome, takenAt}
 use Rattle.records.specs.declared.Record.{Record}
 use Rattle.records.specs.declared.Taken.{Taken}
+use Rattle.records.proofs.Taking.{given-onward}
 use Rattle.arrays.specs.Arrays.{Array, arrayAt}
 use Rattle.arrays.specs.Placing.{blocks}
 use Rattle.arrays.specs.WellFormed.{WellFormed, LastOfShape}
@@ -23,7 +24,6 @@ use Rattle.key.proofs.Countings.{counts-key}
 use Rattle.key.proofs.Encodings.{arrays-back}
 use Rattle.key.proofs.Made.{judged-key, Made, made}
 use Rattle.key.proofs.Offsets.{offsetBehind, startsFrom, arrayStarts, starts-length, starts-arrays}
-use Rattle.key.proofs.Readings.{onward}
 use Rattle.key.proofs.Running.{read-runs, runs-apart, arrays-run, runs-bytes}
 
 module _ (key : List ℕ) (counts : Counts) (accepted : checkedKey key ≡ given counts) where
@@ -41,6 +41,7 @@ module _ (key : List ℕ) (counts : Counts) (accepted : checkedKey key ≡ given
   records = m .is ∙ m .finished .records
 
   whole : length key ≤ offsetBehind 0 all
+  unfolding flatMap
   whole =
       omega (
         arith,
@@ -72,7 +73,7 @@ module _ (key : List ℕ) (counts : Counts) (accepted : checkedKey key ≡ given
 
   end-is-last : length key ≡ end + 1
   end-is-last =
-      let inside = onward key end _ (end-runs .0) in
+      let inside = given-onward key end _ (end-runs .0) in
       omega (arith, inside .1, end-runs .1, whole, ap (offsetBehind 0) records)
 
   starts-are : startsOf key ≡ arrayStarts 3 arrays

@@ -1,11 +1,11 @@
 -- What one record more changes in what the records before say.
-use Prim.Native.Nat.{ℕ, zero, suc, _+_, _-_, _≤_, _<_}
+use Prim.Native.Nat.{ℕ, _+_, _-_, _≤_, _<_}
 use mathlib.Core.Bool.{Bool, true, false, cond}
-use mathlib.Core.List.{List, [], _∷_, _++_, append-assoc, append-nil}
+use mathlib.Core.List.{flatMap, List, [], _∷_, _++_, append-nil}
 use mathlib.Core.Path.{_≡_, refl, sym, ap, _∙_}
 use native.Mathlib.Nat.{add-assoc}
 use native.Mathlib.Omega.{arith}
-use borrow.Author.Tests.{eqb-true, eqb-false, ne-eqb, not-false}
+use borrow.Author.Tests.{eqb-true, not-false}
 use lib.Dec.{eqb}
 use lib.ListN.{length, length-append}
 use lib.Seq.{getD-at}
@@ -14,13 +14,7 @@ use Rattle.records.specs.declared.Record.{Record}
 use Rattle.key.specs.Before.{openingIn, opened, openNow, headOf, countOf}
 use Rattle.key.specs.Rules.{notOpen}
 use Rattle.key.specs.declared.Opening.{Opening}
-
-pub opened-append : (records more : List Record) → opened (records ++ more) ≡ opened records ++ opened more
-unfolding opened
-opened-append [] more = refl
-opened-append (r ∷ records) more =
-    ap (λ (openings : List Opening). openingIn r ++ openings) (opened-append records more)
-    ∙ sym (append-assoc (openingIn r) (opened records) (opened more))
+use Rattle.key.proofs.Joined.{flatMap-append}
 
 pub count-append : (kind : ℕ) (records more : List Record) → countOf kind (records ++ more) ≡ countOf kind records + countOf kind more
 unfolding countOf
@@ -31,8 +25,8 @@ count-append kind (r ∷ records) more =
 
 -- the openings behind one record more
 pub opened-one : (before : List Record) (item : Record) → opened (before ++ (item ∷ [])) ≡ opened before ++ openingIn item
-unfolding opened
-opened-one before item = opened-append before (item ∷ []) ∙ ap (λ (o : List Opening). opened before ++ o) (append-nil (openingIn item))
+unfolding flatMap
+opened-one before item = flatMap-append openingIn before (item ∷ []) ∙ ap (λ (o : List Opening). opened before ++ o) (append-nil (openingIn item))
 
 at-most-one : (b : Bool) → cond b 1 0 ≤ 1
 at-most-one true = omega arith
@@ -53,7 +47,7 @@ one-opening (Record.Call call) = omega arith
 one-opening Record.End = omega arith
 
 pub opened-most : (records : List Record) → length (opened records) ≤ length records
-unfolding opened
+unfolding flatMap
 opened-most [] = omega arith
 opened-most (r ∷ records) = omega (arith, length-append (openingIn r) (opened records), one-opening r, opened-most records)
 
@@ -70,15 +64,6 @@ open-last openings o =
 pub head-stays : (records more : List Record) → 0 < length records → headOf (records ++ more) ≡ headOf records
 head-stays [] more some = absurd (omega arith)
 head-stays (r ∷ records) more some = refl
-
--- ---- numbers that are not 0
-
-pub positive : (m : ℕ) → eqb m 0 ≡ false → 0 < m
-positive zero e = absurd (eqb-false 0 0 e refl)
-positive (suc m) e = omega arith
-
-pub not-nought : (m : ℕ) → 0 < m → eqb m 0 ≡ false
-not-nought m some = ne-eqb m 0 (λ e. omega arith)
 
 -- where an array of a kind is open, one was opened
 pub some-open : (openings : List Opening) (kind : ℕ) → 0 < kind → notOpen kind (openNow openings .kind) ≡ false → 0 < length openings

@@ -1,6 +1,6 @@
 -- The key of well-formed arrays, the last of the head's shape, is accepted, and its arrays are those.
 use Prim.Native.Nat.{ℕ, _≤_}
-use mathlib.Core.List.{List, [], _∷_, _++_}
+use mathlib.Core.List.{flatMap, List, [], _∷_, _++_}
 use mathlib.Core.Path.{_≡_, refl, sym, ap, _∙_}
 use native.Mathlib.Omega.{arith}
 use borrow.Author.Tests.{le-ltb}
@@ -12,7 +12,6 @@ use Rattle.arrays.specs.Arrays.{Array}
 use Rattle.arrays.specs.Placing.{blocks}
 use Rattle.arrays.specs.WellFormed.{Each, ArrayFits, WellFormed, LastOfShape}
 use Rattle.key.specs.Accepted.{arrayCounts}
-use Rattle.key.specs.Before.{opened}
 use Rattle.key.specs.Check.{judged, checkedKey}
 use Rattle.key.specs.Encoding.{headRecord, openingRecord, arrayRecords, arraysRecords, keyRecords, keyBytes}
 use Rattle.key.specs.KeyArrays.{arraysOf, keyArrays}
@@ -26,13 +25,14 @@ use Rattle.key.proofs.Past.{Past, past-append}
 use Rattle.key.proofs.RulesKept.{head-kept, opening-kept, end-kept, entries-kept}
 
 past-head : (n n' : ℕ) → Past n n' [] (headRecord n n' ∷ [])
-unfolding opened
+unfolding flatMap
 past-head n n' = record { some-record = omega arith; head = refl; openings = refl }
 
 module _ (n n' : ℕ) (all : List Array) (formed : WellFormed blocks blocks n n' all) (few : length all ≤ 1024) where
   -- behind the records of the arrays that are done, those of the arrays to come keep their rules
   arrays-kept : (done todo : List Array) (before : List Record) → all ≡ done ++ todo → Past n n' done before →
       Keeping before (arraysRecords todo)
+  unfolding flatMap
   arrays-kept done [] before e past = tt
   arrays-kept done (array ∷ todo) before e past =
       let opening : Record = openingRecord (array .row-bits) (array .column-bits) (array .entries) in

@@ -1,7 +1,7 @@
 -- How many arrays, cells and calls the records of some arrays are.
 use Prim.Native.Nat.{ℕ, _+_}
 use mathlib.Core.Bool.{true, false}
-use mathlib.Core.List.{List, [], _∷_, map}
+use mathlib.Core.List.{flatMap, List, [], _∷_, map}
 use mathlib.Core.Path.{_≡_, refl, ap, ap₂, _∙_}
 use native.Mathlib.Nat.{zero-add}
 use native.Mathlib.Omega.{arith}
@@ -34,7 +34,7 @@ module _ {A : Type 0} (kind : ℕ) (item : A → Record) where
 counted-arrays : (kind : ℕ) (number : Entries → ℕ) →
     ((k k' : ℕ) (entries : Entries) → countOf kind (openingRecord k k' entries ∷ entryRecords entries) ≡ number entries) →
     (arrays : List Array) → countOf kind (arraysRecords arrays) ≡ totalOf number arrays
-unfolding countOf
+unfolding countOf flatMap
 counted-arrays kind number are [] = refl
 counted-arrays kind number are (array ∷ arrays) =
     count-append kind (arrayRecords array) (arraysRecords arrays)

@@ -1,6 +1,6 @@
 -- The records of some arrays: the arrays that they are, and what they open.
 use Prim.Native.Nat.{ℕ}
-use mathlib.Core.List.{List, [], _∷_, _++_, map, append-assoc, append-nil}
+use mathlib.Core.List.{flatMap, List, [], _∷_, _++_, map, append-assoc, append-nil}
 use mathlib.Core.Path.{_≡_, refl, ap, ap₂, _∙_}
 use Rattle.records.specs.declared.Record.{Record}
 use Rattle.arrays.specs.Arrays.{Cell, Call, Entries, cells, calls, Array}
@@ -8,7 +8,7 @@ use Rattle.key.specs.Before.{openingIn, opened}
 use Rattle.key.specs.Encoding.{cellRecord, callRecord, openingRecord, entryRecords, arrayRecords, arraysRecords, keyRecords}
 use Rattle.key.specs.KeyArrays.{cellsFirst, callsFirst, arraysOf}
 use Rattle.key.specs.declared.Opening.{Opening}
-use Rattle.key.proofs.Befores.{opened-append}
+use Rattle.key.proofs.Joined.{flatMap-append}
 
 -- ---- the arrays back
 
@@ -55,14 +55,14 @@ no-entry k k' (cells list) rest = (refl, refl)
 no-entry k k' (calls list) rest = (refl, refl)
 
 ending-no-entry : (arrays : List Array) → (cellsFirst (ending arrays) ≡ []) × (callsFirst (ending arrays) ≡ [])
-unfolding cellsFirst callsFirst
+unfolding cellsFirst callsFirst flatMap
 ending-no-entry [] = (refl, refl)
 ending-no-entry (array ∷ arrays) =
     no-entry (array .row-bits) (array .column-bits) (array .entries)
     ((entryRecords (array .entries) ++ arraysRecords arrays) ++ (Record.End ∷ []))
 
 ending-back : (arrays : List Array) → arraysOf (ending arrays) ≡ arrays
-unfolding arraysOf
+unfolding arraysOf flatMap
 ending-back [] = refl
 ending-back (array ∷ arrays) =
     ap arraysOf (append-assoc (arrayRecords array) (arraysRecords arrays) (Record.End ∷ []))
@@ -88,7 +88,7 @@ openingOf array =
 
 -- records that open none
 unopened : {A : Type 0} (item : A → Record) → ((x : A) → openingIn (item x) ≡ []) → (list : List A) → opened (map item list) ≡ []
-unfolding opened
+unfolding flatMap
 unopened item none [] = refl
 unopened item none (x ∷ list) = ap₂ _++_ (none x) (unopened item none list)
 
@@ -107,21 +107,21 @@ module _ (array : Array) where
 
   pub opened-opening :
       opened (openingRecord (array .row-bits) (array .column-bits) (array .entries) ∷ []) ≡ openingOf array ∷ []
-  unfolding opened
+  unfolding flatMap
   opened-opening = ap (λ (l : List Opening). l ++ []) first
 
   pub opened-array : opened (arrayRecords array) ≡ openingOf array ∷ []
-  unfolding opened
+  unfolding flatMap
   opened-array = ap₂ _++_ first (opened-entries (array .entries))
 
 pub opened-arrays : (arrays : List Array) → opened (arraysRecords arrays) ≡ map openingOf arrays
-unfolding opened
+unfolding flatMap
 opened-arrays [] = refl
 opened-arrays (array ∷ arrays) =
-    opened-append (arrayRecords array) (arraysRecords arrays)
+    flatMap-append openingIn (arrayRecords array) (arraysRecords arrays)
     ∙ ap₂ _++_ (opened-array array) (opened-arrays arrays)
 
 pub opened-key : (n n' : ℕ) (arrays : List Array) → opened (keyRecords n n' arrays) ≡ map openingOf arrays
-unfolding opened
+unfolding flatMap
 opened-key n n' arrays =
-    opened-append (arraysRecords arrays) (Record.End ∷ []) ∙ append-nil (opened (arraysRecords arrays)) ∙ opened-arrays arrays
+    flatMap-append openingIn (arraysRecords arrays) (Record.End ∷ []) ∙ append-nil (opened (arraysRecords arrays)) ∙ opened-arrays arrays

@@ -1,7 +1,7 @@
 -- The key of 01's keysheet input, its arrays and where they begin, and a key for each refusal. Number 6 needs more than 3,000
 -- bytes, and the test program has it.
 use Prim.Native.Nat.{ℕ}
-use mathlib.Core.List.{List, [], _∷_, _++_, map}
+use mathlib.Core.List.{flatMap, List, [], _∷_, _++_, map}
 use mathlib.Core.Path.{_≡_, refl}
 use lib.ListN.{replicate}
 use Rattle.refusal.specs.Number.{numberOf}
@@ -12,19 +12,19 @@ use Rattle.records.specs.Take.{takenAs, takenFrom, takenAt}
 use Rattle.records.specs.declared.Record.{Record}
 use Rattle.records.proofs.Examples.{key}
 use Rattle.arrays.specs.Arrays.{cells, calls}
-use Rattle.key.specs.Before.{opened, countOf}
+use Rattle.key.specs.Before.{countOf}
 use Rattle.key.specs.Check.{firstBroken, rulesOf, rulesBehind, judged, checkedKey}
 use Rattle.key.specs.Encoding.{headRecord, bytesOfAll}
-use Rattle.key.specs.Index.{startsIn, startsOf}
+use Rattle.key.specs.Index.{startsOf}
 use Rattle.key.specs.KeyArrays.{cellsFirst, callsFirst, arraysOf, keyArrays}
 use Rattle.key.specs.Reading.{readAt, readFrom, locatedIn}
 
 counted : checkedKey key ≡ given (record { arrays = 2; cells = 1; calls = 2; rows = 1; columns = 1 })
-unfolding checkedKey judged rulesOf rulesBehind firstBroken opened countOf readFrom readAt takenAt takenFrom takenAs recordOf numberOf
+unfolding checkedKey judged rulesOf rulesBehind firstBroken flatMap countOf readFrom readAt takenAt takenFrom takenAs recordOf numberOf
 counted = refl
 
 begins : startsOf key ≡ 3 ∷ 27 ∷ []
-unfolding startsIn locatedIn readFrom readAt takenAt takenFrom takenAs recordOf
+unfolding flatMap locatedIn readFrom readAt takenAt takenFrom takenAs recordOf
 begins = refl
 
 arrays :
@@ -109,7 +109,7 @@ faults :
     refused 10 9 ∷
     refused 12 6 ∷
     []
-unfolding checkedKey judged rulesOf rulesBehind firstBroken opened countOf readFrom readAt takenAt takenFrom takenAs recordOf numberOf
+unfolding checkedKey judged rulesOf rulesBehind firstBroken flatMap countOf readFrom readAt takenAt takenFrom takenAs recordOf numberOf
 faults = refl
 
 -- 1: a byte too many

@@ -1,11 +1,12 @@
 -- What is read behind the records of well-formed arrays, up to the end of an accepted key, makes them the records of its key.
 use Prim.Native.Nat.{ℕ, zero, suc, _+_, _≤_, _<_}
 use mathlib.Core.Bool.{Bool, true, false, cond}
-use mathlib.Core.List.{List, [], _∷_, _++_, map}
+use mathlib.Core.List.{flatMap, List, [], _∷_, _++_, map}
 use mathlib.Core.Logic.{_⊎_, inl, inr}
 use mathlib.Core.Path.{_≡_, refl, sym, ap, ap₂, subst, _∙_}
+use native.Mathlib.Nat.{pos-of-ne-zero}
 use native.Mathlib.Omega.{arith}
-use borrow.Author.Tests.{ltb-false, eqb-true, not-false}
+use borrow.Author.Tests.{eqb-false, ltb-false, eqb-true, not-false}
 use lib.ListN.{length, length-append, length-map}
 use lib.Seq.{append-snoc}
 use Rattle.refusal.specs.Outcome.{Outcome, given, refused, refuse}
@@ -24,7 +25,6 @@ use Rattle.key.specs.Reading.{Located, Reading, behind, readAt, readFrom
 use Rattle.key.specs.Rules.{Rule, endRules}
 use Rattle.key.specs.declared.Counts.{Counts}
 use Rattle.key.specs.declared.Opening.{Opening}
-use Rattle.key.proofs.Befores.{positive}
 use Rattle.key.proofs.Encodings.{openingOf}
 use Rattle.key.proofs.Grown.{grown}
 use Rattle.key.proofs.Growth.{before, Grown, opened-before}
@@ -70,7 +70,7 @@ module _ (key : List ℕ) (n n' : ℕ) (counts : Counts) where
   last-shaped arrays kept =
       let held = subst (λ (os : List Opening). Each Kept (endRules (record { rows = n; columns = n' }) (length os) (openNow os)))
       (opened-before n n' arrays) kept in
-      let some : 0 < length arrays = omega (arith, positive (length (map openingOf arrays)) (held .0), length-map arrays openingOf) in
+      let some : 0 < length arrays = omega (arith, pos-of-ne-zero (eqb-false (length (map openingOf arrays)) 0 (held .0)), length-map arrays openingOf) in
       let shaped = subst (λ (o : Opening). Each Kept (endRules (record { rows = n; columns = n' }) (length (map openingOf arrays)) o))
       (open-now arrays some) held in
       record {
@@ -87,7 +87,7 @@ module _ (key : List ℕ) (n n' : ℕ) (counts : Counts) where
   pub from : (steps len at : ℕ) (arrays : List Array) → WellFormed blocks blocks n n' arrays → length arrays ≤ 1024 →
       judged len (before n n' arrays) (readFrom steps key at) ≡ given counts →
       Finished len at (before n n' arrays) (items (locatedIn (readFrom steps key at)))
-  unfolding readFrom readAt judged locatedIn
+  unfolding readFrom readAt judged locatedIn flatMap
   from zero len at arrays well most e = absurd (given-not-refused (sym e))
   from (suc steps) len at arrays well most e = taken (takenAt key at) refl e (from steps len)
     where

@@ -1,6 +1,6 @@
 -- The records of well-formed arrays fit their widths, and none of them but the last is an end.
 use Prim.Native.Nat.{ℕ, _-_, _^_, _≤_}
-use mathlib.Core.List.{List, [], _∷_, _++_}
+use mathlib.Core.List.{flatMap, List, [], _∷_, _++_}
 use mathlib.Core.Path.{_≡_, refl, sym, ap, _∙_, subst}
 use native.Mathlib.Nat.{pow-le-pow-right}
 use native.Mathlib.Omega.{arith}
@@ -26,6 +26,7 @@ opening-onward k k' (cells list) = tt
 opening-onward k k' (calls list) = tt
 
 pub arrays-onward : (arrays : List Array) → Each Onward (arraysRecords arrays)
+unfolding flatMap
 arrays-onward [] = tt
 arrays-onward (array ∷ arrays) =
     each-append Onward (arrayRecords array) (arraysRecords arrays)
@@ -66,6 +67,7 @@ module _ (n n' : ℕ) (all : List Array) (formed : WellFormed blocks blocks n n'
       (formed .arrays-fit (length done) (omega (arith, ap length e, length-append done (array ∷ todo))))
 
   arrays-fitting : length all ≤ 1024 → (done todo : List Array) → all ≡ done ++ todo → Each Fitting (arraysRecords todo)
+  unfolding flatMap
   arrays-fitting few done [] e = tt
   arrays-fitting few done (array ∷ todo) e =
       let fits : ArrayFits blocks blocks all n n' (length done) array = fits-between done todo array e in

@@ -1,7 +1,7 @@
 -- The records of well-formed arrays with an array, or an entry of the last array, more.
 use Prim.Native.Nat.{ℕ, _≤_, _<_}
-use mathlib.Core.List.{List, [], _∷_, _++_, map, append-assoc, append-nil}
-use mathlib.Core.Path.{_≡_, refl, sym, ap, _∙_}
+use mathlib.Core.List.{flatMap, List, [], _∷_, _++_, map, append-assoc, append-nil}
+use mathlib.Core.Path.{_≡_, sym, ap, _∙_}
 use native.Mathlib.Omega.{arith}
 use lib.ListN.{length, length-append}
 use Rattle.records.specs.declared.Record.{Record}
@@ -13,12 +13,7 @@ use Rattle.arrays.proofs.Growing.{array-added, array-removed}
 use Rattle.key.specs.Before.{opened}
 use Rattle.key.specs.Encoding.{headRecord, arrayRecords, arraysRecords}
 use Rattle.key.proofs.Encodings.{arrayWith, openingOf, opened-arrays}
-
-arrays-append : (arrays more : List Array) → arraysRecords (arrays ++ more) ≡ arraysRecords arrays ++ arraysRecords more
-arrays-append [] more = refl
-arrays-append (array ∷ arrays) more =
-    ap (λ (rest : List Record). arrayRecords array ++ rest) (arrays-append arrays more)
-    ∙ sym (append-assoc (arrayRecords array) (arraysRecords arrays) (arraysRecords more))
+use Rattle.key.proofs.Joined.{flatMap-append}
 
 module _ (n n' : ℕ) where
   -- the head and the records of some arrays
@@ -33,7 +28,7 @@ module _ (n n' : ℕ) where
     pub most : length arrays ≤ 1024
 
   pub opened-before : (arrays : List Array) → opened (before arrays) ≡ map openingOf arrays
-  unfolding opened
+  unfolding flatMap
   opened-before arrays = opened-arrays arrays
 
   -- an array without entries
@@ -41,13 +36,14 @@ module _ (n n' : ℕ) where
       arrayRecords (arrayWith (shape .rows) (shape .columns) none) ≡ r ∷ [] →
       ArrayFits blocks blocks arrays n n' (length arrays) (arrayWith (shape .rows) (shape .columns) none) →
       WellFormed blocks blocks n n' arrays → length arrays < 1024 → Grown (before arrays ++ (r ∷ []))
+  unfolding flatMap
   opening-grown arrays r shape none is fits well room =
       let a : Array = arrayWith (shape .rows) (shape .columns) none in
       record {
         arrays = arrays ++ (a ∷ []);
         is =
             ap (λ (rest : List Record). before arrays ++ rest) (sym (append-nil (arrayRecords a) ∙ is))
-            ∙ ap (λ (rest : List Record). headRecord n n' ∷ rest) (sym (arrays-append arrays (a ∷ [])));
+            ∙ ap (λ (rest : List Record). headRecord n n' ∷ rest) (sym (flatMap-append arrayRecords arrays (a ∷ [])));
         well = array-added blocks blocks n n' arrays a well fits;
         most = omega (arith, length-append arrays (a ∷ []));
       }
@@ -59,6 +55,7 @@ module _ (n n' : ℕ) where
       length (arrays ++ (arrayWith k k' old ∷ [])) ≤ 1024 →
       ArrayFits blocks blocks arrays n n' (length arrays) (arrayWith k k' new) →
       Grown (before (arrays ++ (arrayWith k k' old ∷ [])) ++ (r ∷ []))
+  unfolding flatMap
   entry-grown arrays k k' old new r is well most fits =
       record {
         arrays = arrays ++ (arrayWith k k' new ∷ []);
@@ -77,5 +74,5 @@ module _ (n n' : ℕ) where
       whole : (entries : Entries) →
           arraysRecords (arrays ++ (arrayWith k k' entries ∷ [])) ≡ arraysRecords arrays ++ arrayRecords (arrayWith k k' entries)
       whole entries =
-          arrays-append arrays (arrayWith k k' entries ∷ [])
+          flatMap-append arrayRecords arrays (arrayWith k k' entries ∷ [])
           ∙ ap (λ (rest : List Record). arraysRecords arrays ++ rest) (append-nil (arrayRecords (arrayWith k k' entries)))

@@ -1,7 +1,7 @@
 -- Records that keep all their rules are accepted.
 use Prim.Native.Nat.{ℕ, _+_, _≤_}
 use mathlib.Core.Bool.{false}
-use mathlib.Core.List.{List, [], _∷_, _++_, append-nil}
+use mathlib.Core.List.{flatMap, List, [], _∷_, _++_, append-nil}
 use mathlib.Core.Path.{_≡_, refl, ap, _∙_}
 use native.Mathlib.Omega.{arith}
 use borrow.Author.Tests.{le-ltb}
@@ -21,7 +21,7 @@ use Rattle.key.proofs.Laid.{laid, Onward, behind-onward}
 abbrev pub Kept : Rule → Type 0
 Kept rule = rule .broken ≡ false
 
-pub all-kept : {A : Type 0} (place : ℕ) (rules : List Rule) (rest : Outcome A) → Each Kept rules →
+all-kept : {A : Type 0} (place : ℕ) (rules : List Rule) (rest : Outcome A) → Each Kept rules →
     firstBroken place rules rest ≡ rest
 unfolding firstBroken
 all-kept place [] rest kept = refl
@@ -62,7 +62,7 @@ judged-kept len before x rest kept behind =
 pub keeping-accepted : (len at : ℕ) (before records : List Record) → Each Onward records →
     Keeping before (records ++ (Record.End ∷ [])) → len ≡ at + length (bytesOfAll (records ++ (Record.End ∷ []))) →
     judged len before (laid at (records ++ (Record.End ∷ []))) ≡ given (countsOf (before ++ (records ++ (Record.End ∷ []))))
-unfolding judged laid
+unfolding judged laid flatMap
 keeping-accepted len at before [] onward kept whole =
     judged-kept len before (record { item = Record.End; at = at; next = at + length (encoded Record.End) })
     (given (countsOf (before ++ (Record.End ∷ [])))) (kept .0) (end-behind-kept len (at + length (encoded Record.End)) (omega arith))

@@ -1,23 +1,21 @@
 -- The bytes of some records are read as those records, one behind the other.
 use Prim.Native.Nat.{ℕ, zero, suc, _+_, _≤_}
-use mathlib.Core.List.{List, [], _∷_, _++_, append-assoc}
+use mathlib.Core.List.{flatMap, List, [], _∷_, _++_, append-assoc}
 use mathlib.Core.Logic.{_⊎_, inl, inr}
 use mathlib.Core.Path.{_≡_, refl, ap, _∙_}
 use native.Mathlib.Omega.{arith}
 use lib.ListN.{length, length-append}
 use Rattle.refusal.specs.Number.{numberOf}
-use Rattle.refusal.specs.Outcome.{Outcome}
 use Rattle.refusal.specs.declared.Reason.{Reason}
 use Rattle.records.specs.Inner.{Fitting}
 use Rattle.records.specs.Kinds.{encoded}
-use Rattle.records.specs.Take.{Found}
 use Rattle.records.specs.declared.Record.{Record}
-use Rattle.records.proofs.Answers.{record-back}
 use Rattle.records.proofs.RoundTrip.{taken-between}
 use Rattle.records.proofs.Taking.{missing-refused}
 use Rattle.arrays.specs.WellFormed.{Each}
 use Rattle.key.specs.Encoding.{bytesOfAll}
 use Rattle.key.specs.Reading.{Reading, stopped, located, behind, readAt, readFrom, readingOf, locatedIn, items, recordsIn}
+use Rattle.key.proofs.Readings.{read-record, read-stopped}
 
 -- records one behind the other from an offset on; behind the last no record can be taken
 unfoldable pub laid : ℕ → List Record → Reading
@@ -27,34 +25,18 @@ laid at (r ∷ records) =
     (record { item = r; at = at; next = at + length (encoded r) })
     (behind r (laid (at + length (encoded r)) records))
 
--- a step reads a record whose bytes stand between any others
-read-between : (r : Record) (before rest : List ℕ) (steps : ℕ) → Fitting r →
-    readFrom (suc steps) (before ++ (encoded r ++ rest)) (length before) ≡
-    located
-    (record { item = r; at = length before; next = length before + length (encoded r) })
-    (behind r (readFrom steps (before ++ (encoded r ++ rest)) (length before + length (encoded r))))
-unfolding readFrom readAt
-read-between r before rest steps fit =
-    ap (λ (o : Outcome Found). readAt (length before) o (readFrom steps (before ++ (encoded r ++ rest))))
-    (taken-between r before rest fit)
-    ∙ ap
-    (λ (item : Record).
-    located
-    (record { item = item; at = length before; next = length before + length (encoded r) })
-    (behind item (readFrom steps (before ++ (encoded r ++ rest)) (length before + length (encoded r)))))
-    (record-back r)
-
--- so do as many steps as there are records, or more
+-- as many steps as there are records, or more, read the bytes of records between any others
 read-all : (records : List Record) (before : List ℕ) (steps : ℕ) → Each Fitting records → length records ≤ steps →
     readFrom steps (before ++ bytesOfAll records) (length before) ≡ laid (length before) records
-unfolding readFrom readAt laid
+unfolding readFrom readAt laid flatMap
 read-all [] before zero fit room = refl
 read-all [] before (suc steps) fit room =
-    ap (λ (o : Outcome Found). readAt (length before) o (readFrom steps (before ++ [])))
+    read-stopped steps (before ++ []) (length before) (numberOf Reason.RecordIncomplete) (length before)
     (missing-refused (before ++ []) (length before) (omega (arith, length-append before [])) (omega (arith, length-append before [])))
 read-all (r ∷ records) before zero fit room = absurd (omega arith)
 read-all (r ∷ records) before (suc steps) fit room =
-    read-between r before (bytesOfAll records) steps (fit .0)
+    read-record steps (before ++ (encoded r ++ bytesOfAll records)) (length before) r (length before + length (encoded r))
+    (taken-between r before (bytesOfAll records) (fit .0))
     ∙ ap
     (λ (rest : Reading).
     located (record { item = r; at = length before; next = length before + length (encoded r) }) (behind r rest))
@@ -63,6 +45,7 @@ read-all (r ∷ records) before (suc steps) fit room =
 
 -- a record has a byte or more
 length-records : (records : List Record) → length records ≤ length (bytesOfAll records)
+unfolding flatMap
 length-records [] = omega arith
 length-records (r ∷ records) = omega (arith, length-records records, length-append (encoded r) (bytesOfAll records))
 

@@ -1,3 +1,5 @@
+pub mod Joined
+pub mod Numbers
 pub mod Befores
 pub mod Readings
 pub mod Examples
@@ -18,7 +20,6 @@ pub mod Grown
 pub mod Finished
 pub mod Made
 pub mod Acceptance
-pub mod Powers
 pub mod Tables
 pub mod Verdicts
 pub mod Seeing

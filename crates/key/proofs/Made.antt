@@ -1,7 +1,7 @@
 -- The records of an accepted key are a head, and what makes it the key of well-formed arrays.
 use Prim.Native.Nat.{ℕ, _+_, _≤_}
 use mathlib.Core.Bool.{Bool, true, false, cond}
-use mathlib.Core.List.{List, [], _∷_}
+use mathlib.Core.List.{flatMap, List, [], _∷_}
 use mathlib.Core.Path.{_≡_, refl, sym, ap, subst, _∙_}
 use native.Mathlib.Omega.{arith}
 use borrow.Author.Tests.{ltb-false, eqb-true, eqb-false, not-false}
@@ -16,7 +16,6 @@ use Rattle.records.specs.declared.Record.{Record}
 use Rattle.records.specs.declared.Shape.{Shape}
 use Rattle.records.proofs.Found.{found-taken}
 use Rattle.arrays.specs.WellFormed.{Each}
-use Rattle.key.specs.Before.{opened}
 use Rattle.key.specs.Check.{rulesOf, judged, checkedKey}
 use Rattle.key.specs.Encoding.{headRecord}
 use Rattle.key.specs.Reading.{behind, readAt, readFrom, readingOf, locatedIn, items, recordsIn}
@@ -33,7 +32,7 @@ record Headed (r : Record) : Type 0 where
   pub columns : shape .columns ≤ 30
 
 first-head : (r : Record) → Each Kept (rulesOf [] r) → Headed r
-unfolding rulesOf opened
+unfolding rulesOf flatMap
 first-head (Record.Head shape) kept =
     record {
       shape = shape;
@@ -69,7 +68,7 @@ module _ (key : List ℕ) (counts : Counts) where
     pub finished : Finished key n n' counts (length key) (length (encoded (headRecord n n'))) (headRecord n n' ∷ []) rest
 
   pub made : checkedKey key ≡ given counts → Made (recordsIn key)
-  unfolding readFrom readAt judged locatedIn
+  unfolding readFrom readAt judged locatedIn flatMap
   made e = taken (takenAt key 0) refl (judged-key key counts e .1)
     where
       taken : (t : Outcome Found) → takenAt key 0 ≡ t →

@@ -1,6 +1,6 @@
 -- Where records and arrays begin that lie one behind the other.
 use Prim.Native.Nat.{ℕ, suc, _+_}
-use mathlib.Core.List.{List, [], _∷_, _++_, map, append-assoc, append-nil}
+use mathlib.Core.List.{flatMap, List, [], _∷_, _++_, map, append-assoc, append-nil}
 use mathlib.Core.Path.{_≡_, refl, sym, ap, _∙_}
 use native.Mathlib.Omega.{arith}
 use lib.ListN.{length, getD, length-append}
@@ -11,22 +11,18 @@ use Rattle.key.specs.Before.{openingIn}
 use Rattle.key.specs.Encoding.{cellRecord, callRecord, openingRecord, entryRecords, arrayRecords, arraysRecords, bytesOfAll}
 use Rattle.key.specs.Reading.{behind}
 use Rattle.key.specs.declared.Opening.{Opening}
+use Rattle.key.proofs.Joined.{flatMap-append}
 
 -- the offset behind some records that begin at an offset
 abbrev pub offsetBehind : ℕ → List Record → ℕ
 offsetBehind at records = at + length (bytesOfAll records)
 
 pub behind-cons : (at : ℕ) (r : Record) (records : List Record) → offsetBehind (at + length (encoded r)) records ≡ offsetBehind at (r ∷ records)
+unfolding flatMap
 behind-cons at r records = omega (arith, length-append (encoded r) (bytesOfAll records))
 
-bytes-append : (records more : List Record) → bytesOfAll (records ++ more) ≡ bytesOfAll records ++ bytesOfAll more
-bytes-append [] more = refl
-bytes-append (r ∷ records) more =
-    ap (λ (rest : List ℕ). encoded r ++ rest) (bytes-append records more)
-    ∙ sym (append-assoc (encoded r) (bytesOfAll records) (bytesOfAll more))
-
 pub behind-append : (at : ℕ) (records more : List Record) → offsetBehind (offsetBehind at records) more ≡ offsetBehind at (records ++ more)
-behind-append at records more = omega (arith, ap length (bytes-append records more), length-append (bytesOfAll records) (bytesOfAll more))
+behind-append at records more = omega (arith, ap length (flatMap-append encoded records more), length-append (bytesOfAll records) (bytesOfAll more))
 
 -- the offsets of the openings among some records that begin at an offset
 abbrev pub startsFrom : ℕ → List Record → List ℕ
@@ -44,6 +40,7 @@ arrayStarts at (array ∷ arrays) = at ∷ arrayStarts (offsetBehind at (arrayRe
 pub first-bound : (at : ℕ) (records : List Record) (arrays : List Array) →
     offsetBehind at records ≡
     getD (arrayStarts (offsetBehind at records) arrays ++ (offsetBehind at (records ++ arraysRecords arrays) ∷ [])) 0 0
+unfolding flatMap
 first-bound at records [] = ap (offsetBehind at) (sym (append-nil records))
 first-bound at records (array ∷ arrays) = refl
 
@@ -54,6 +51,7 @@ starts-length at (array ∷ arrays) = ap suc (starts-length (offsetBehind at (ar
 -- records that open no array
 starts-none : {A : Type 0} (item : A → Record) → ((x : A) → openingIn (item x) ≡ []) → (at : ℕ) (list : List A) (more : List Record) →
     startsFrom at (map item list ++ more) ≡ startsFrom (offsetBehind at (map item list)) more
+unfolding flatMap
 starts-none item none at [] more = ap (λ (m : ℕ). startsFrom m more) (omega arith)
 starts-none item none at (x ∷ list) more =
     ap (λ (os : List Opening). map (λ (o : Opening). at) os ++ startsFrom (at + length (encoded (item x))) (map item list ++ more)) (none x)
@@ -74,6 +72,7 @@ starts-array at k k' (calls list) more =
     ∙ ap (λ (m : ℕ). startsFrom m more) (behind-cons at (openingRecord k k' (calls list)) (map callRecord list)))
 
 pub starts-arrays : (at : ℕ) (arrays : List Array) → startsFrom at (arraysRecords arrays ++ (Record.End ∷ [])) ≡ arrayStarts at arrays
+unfolding flatMap
 starts-arrays at [] = refl
 starts-arrays at (array ∷ arrays) =
     ap (startsFrom at) (append-assoc (arrayRecords array) (arraysRecords arrays) (Record.End ∷ []))

@@ -1,7 +1,7 @@
 -- What the records before a record say where they are a head and the records of some arrays.
 use Prim.Native.Nat.{ℕ, zero, suc, _-_, _<_}
 use mathlib.Core.Bool.{false}
-use mathlib.Core.List.{List, [], _∷_, _++_, map, map-append, append-nil}
+use mathlib.Core.List.{flatMap, List, [], _∷_, _++_, map, map-append, append-nil}
 use mathlib.Core.Path.{_≡_, refl, sym, ap, _∙_}
 use native.Mathlib.Omega.{arith}
 use lib.Dec.{eqb}
@@ -10,8 +10,10 @@ use Rattle.records.specs.declared.Record.{Record}
 use Rattle.arrays.specs.Arrays.{cells, Array, arrayAt}
 use Rattle.key.specs.Before.{openingIn, opened, openingAt, openNow, headOf}
 use Rattle.key.specs.declared.Opening.{Opening}
-use Rattle.key.proofs.Befores.{opened-append, open-last, head-stays, not-nought}
+use Rattle.key.proofs.Befores.{open-last, head-stays}
 use Rattle.key.proofs.Encodings.{openingOf}
+use Rattle.key.proofs.Joined.{flatMap-append}
+use Rattle.key.proofs.Numbers.{not-nought}
 
 -- some records, the first a head of n row bits and n' column bits, open these arrays
 pub record Past (n n' : ℕ) (arrays : List Array) (before : List Record) : Type 0 where
@@ -28,7 +30,7 @@ module _ (n n' : ℕ) (before : List Record) where
         some-record = omega (arith, past .some-record, length-append before records);
         head = head-stays before records (past .some-record) ∙ past .head;
         openings =
-            opened-append before records
+            flatMap-append openingIn before records
             ∙ ap (λ (l : List Opening). l ++ opened records) (past .openings)
             ∙ ap (λ (l : List Opening). map openingOf arrays ++ l) e
             ∙ sym (map-append openingOf arrays more);
@@ -37,7 +39,7 @@ module _ (n n' : ℕ) (before : List Record) where
   -- a cell or a call opens none
   pub past-entry : (arrays : List Array) (r : Record) → Past n n' arrays before → openingIn r ≡ [] →
       Past n n' arrays (before ++ (r ∷ []))
-  unfolding opened
+  unfolding flatMap
   past-entry arrays r past e =
       rw (append-nil arrays) at
       (past-append arrays [] (r ∷ []) past (append-nil (openingIn r) ∙ e))

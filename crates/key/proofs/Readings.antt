@@ -10,7 +10,7 @@ use Rattle.records.specs.Take.{Found, takenOutcome, takenAt}
 use Rattle.records.specs.declared.Record.{Record}
 use Rattle.records.specs.declared.Taken.{Taken}
 use Rattle.records.proofs.Answers.{record-back}
-use Rattle.records.proofs.Taking.{given-whole}
+use Rattle.records.proofs.Taking.{given-onward}
 use Rattle.key.specs.Reading.{Reading, stopped, located, behind, readAt, readFrom}
 
 module _ (steps : ℕ) (key : List ℕ) (at : ℕ) where
@@ -24,13 +24,6 @@ module _ (steps : ℕ) (key : List ℕ) (at : ℕ) where
   pub read-stopped : (number place : ℕ) → takenAt key at ≡ refused number place → readFrom (suc steps) key at ≡ stopped number place
   unfolding readFrom readAt
   read-stopped number place e = ap (λ (t : Outcome Found). readAt at t (readFrom steps key)) e
-
--- a record that is taken has a byte or more, and lies in the key
-pub onward : (key : List ℕ) (at : ℕ) (found : Found) → takenAt key at ≡ given found → (at < found .next) × (found .next ≤ length key)
-onward key at found e =
-    let whole = given-whole key at found e in
-    let next = ap (λ (t : Found). t .next) (whole .is) in
-    (omega (arith, next), omega (arith, next, whole .room))
 
 -- any number of steps that reaches the key's end reads the same
 pub steps-enough : (m n : ℕ) (key : List ℕ) (at : ℕ) → at ≤ length key → length key < at + m → length key < at + n →
@@ -46,7 +39,7 @@ steps-enough (suc m) (suc n) key at l a b =
         readAt at (takenAt key at) (readFrom m key) ≡ readAt at (takenAt key at) (readFrom n key)
     go (refused number place) e same = rw e
     go (given found) e same =
-        let o = onward key at found e in
+        let o = given-onward key at found e in
         ap (λ (t : Outcome Found). readAt at t (readFrom m key)) e
         ∙ ap (λ (rest : Reading). located (record { item = recordOf (found .kind) (found .fields); at = at; next = found .next })
         (behind (recordOf (found .kind) (found .fields)) rest))

@@ -16,9 +16,9 @@ use Rattle.key.specs.Check.{rulesOf}
 use Rattle.key.specs.Encoding.{headRecord, cellRecord, callRecord, openingRecord, entryRecords}
 use Rattle.key.specs.Rules.{unlike, openingRules}
 use Rattle.key.specs.declared.Opening.{Opening}
-use Rattle.key.proofs.Befores.{not-nought}
 use Rattle.key.proofs.Encodings.{arrayWith, openingOf}
 use Rattle.key.proofs.Kept.{Kept, Keeping}
+use Rattle.key.proofs.Numbers.{not-nought}
 use Rattle.key.proofs.Past.{Past, past-entry, not-first, opening-at, open-now, array-open}
 
 -- ---- the head, an opening and the end

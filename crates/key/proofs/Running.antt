@@ -1,6 +1,6 @@
 -- The records that are read are taken one behind the other.
 use Prim.Native.Nat.{ℕ, zero, suc, _+_, _-_, _<_}
-use mathlib.Core.List.{List, [], _∷_, _++_, map, append-assoc}
+use mathlib.Core.List.{flatMap, List, [], _∷_, _++_, map, append-assoc}
 use mathlib.Core.Logic.{_⊎_, inl, inr}
 use mathlib.Core.Path.{_≡_, refl, sym, ap, ap₂, subst, _∙_}
 use native.Mathlib.Omega.{arith}
@@ -28,13 +28,14 @@ module _ (key : List ℕ) where
 
   -- ---- what is read
 
+  -- the records of a reading run from an offset on, and its openings begin where they lie
   abbrev Read : ℕ → Reading → Type 0
   Read at reading =
       Runs key at (items (locatedIn reading)) (offsetBehind at (items (locatedIn reading))) ×
       (startsIn (locatedIn reading) ≡ startsFrom at (items (locatedIn reading)))
 
   pub read-runs : (steps at : ℕ) → Read at (readFrom steps key at)
-  unfolding readFrom readAt locatedIn startsIn
+  unfolding readFrom readAt locatedIn flatMap
   read-runs zero at = (omega arith, refl)
   read-runs (suc steps) at = taken (takenAt key at) refl (read-runs steps)
     where
@@ -65,6 +66,7 @@ module _ (key : List ℕ) where
   -- records run where those in front of them and those behind them do
   pub runs-apart : (at : ℕ) (records more : List Record) (to : ℕ) → Runs key at (records ++ more) to →
       Runs key at records (offsetBehind at records) × Runs key (offsetBehind at records) more to
+  unfolding flatMap
   runs-apart at [] more to runs = let e : at ≡ offsetBehind at [] = omega arith in (e, subst (λ (m : ℕ). Runs key m more to) e runs)
   runs-apart at (r ∷ records) more to runs =
       let later = runs-apart (at + length (encoded r)) records more to (runs .1) in (
@@ -76,6 +78,7 @@ module _ (key : List ℕ) where
       (i : ℕ) → i < length arrays →
       Runs key (getD (arrayStarts at arrays) i 0) (arrayRecords (arrayAt arrays i))
       (getD (arrayStarts at arrays ++ (offsetBehind at (arraysRecords arrays) ∷ [])) (suc i) 0)
+  unfolding flatMap
   arrays-run at [] more to runs i l = absurd (omega arith)
   arrays-run at (array ∷ arrays) more to runs zero l =
       runs-to at (arrayRecords array) _ _ (first-bound at (arrayRecords array) arrays)
@@ -96,6 +99,7 @@ module _ (key : List ℕ) where
   -- records that are taken one behind the other are the bytes there
   pub runs-bytes : ((i : ℕ) → getD key i 0 < 256) → (at : ℕ) (records : List Record) (to : ℕ) → Runs key at records to →
       drop at key ≡ bytesOfAll records ++ drop to key
+  unfolding flatMap
   runs-bytes are at [] to runs = ap (λ (m : ℕ). drop m key) runs
   runs-bytes are at (r ∷ records) to runs =
       let e : (at + size) - at ≡ size = omega arith in

@@ -1,7 +1,7 @@
 -- What the code has seen is what the records before say, and its verdict on a record is the definition's.
 use Prim.Native.Nat.{ℕ, _-_}
 use mathlib.Core.Bool.{true, false}
-use mathlib.Core.List.{List, [], _∷_, _++_, append-nil}
+use mathlib.Core.List.{flatMap, List, [], _∷_, _++_, append-nil}
 use mathlib.Core.Path.{_≡_, refl, sym, ap, ap₂, subst, _∙_}
 use native.Mathlib.Omega.{arith}
 use borrow.Author.Tests.{eqb-false}
@@ -9,12 +9,13 @@ use lib.ListN.{length}
 use Rattle.refusal.specs.Outcome.{Outcome}
 use Rattle.records.specs.declared.Record.{Record}
 use Rattle.arrays.specs.WellFormed.{Each}
-use Rattle.key.specs.Before.{opened, openNow, headOf, countOf}
+use Rattle.key.specs.Before.{openingIn, opened, openNow, headOf, countOf}
 use Rattle.key.specs.Check.{countsOf, firstBroken, rulesOf, rulesBehind, judgedBy}
 use Rattle.key.specs.Inner.{countsSeen, isEnd, heldTo, rulesSeen, verdictOn, seenIn, rowsIn, columnsIn}
 use Rattle.key.specs.Rules.{Rule, callRules}
 use Rattle.key.specs.declared.rules.Verdict.{Verdict}
-use Rattle.key.proofs.Befores.{opened-append, count-append}
+use Rattle.key.proofs.Befores.{count-append}
+use Rattle.key.proofs.Joined.{flatMap-append}
 use Rattle.key.proofs.Kept.{Kept}
 use Rattle.key.proofs.Laid.{Onward}
 use Rattle.key.proofs.Tables.{Holds}
@@ -46,7 +47,7 @@ module _ (before : List Record) (rows columns : List ℕ) (r : Holds rowsIn rows
       ∙ ap (λ (rules : List Rule). firstBroken at rules (firstBroken next (rulesBehind item next len) rest))
       (rules-seen before rows columns r c item)
 
-  -- a record of which it is that the rules are kept keeps them
+  -- where the verdict is that the rules are kept, they are
   pub verdict-kept : verdictOn (seenIn before) rows columns len at next item ≡ Verdict.Kept → Each Kept (rulesOf before item)
   verdict-kept e =
       let outer = held-kept (heldTo Verdict.Kept at (rulesSeen (seenIn before) rows columns item)) next (rulesBehind item next len) e in
@@ -57,10 +58,10 @@ module _ (before : List Record) (rows columns : List ℕ) (r : Holds rowsIn rows
 
 -- an end changes no count
 pub counts-end : (before : List Record) → countsOf (before ++ (Record.End ∷ [])) ≡ countsSeen (seenIn before)
-unfolding opened countOf
+unfolding countOf flatMap
 counts-end before =
     let openings : opened (before ++ (Record.End ∷ [])) ≡ opened before =
-    opened-append before (Record.End ∷ []) ∙ append-nil (opened before) in
+    flatMap-append openingIn before (Record.End ∷ []) ∙ append-nil (opened before) in
     let cells : countOf 0x04 (before ++ (Record.End ∷ [])) ≡ countOf 0x04 before =
     omega (arith, count-append 0x04 before (Record.End ∷ [])) in
     let calls : countOf 0x05 (before ++ (Record.End ∷ [])) ≡ countOf 0x05 before =

@@ -1,10 +1,11 @@
 -- What the code has seen behind one record more.
 use Prim.Native.Nat.{ℕ, _+_, _≤_, _<_}
 use mathlib.Core.Bool.{false}
-use mathlib.Core.List.{List, [], _∷_, _++_, append-nil}
+use mathlib.Core.List.{flatMap, List, [], _∷_, _++_, append-nil}
 use mathlib.Core.Path.{_≡_, refl, sym, ap, _∙_}
+use native.Mathlib.Nat.{pos-of-ne-zero}
 use native.Mathlib.Omega.{arith}
-use borrow.Author.Tests.{eqb-true, leb-false, not-false}
+use borrow.Author.Tests.{eqb-false, eqb-true, leb-false, not-false}
 use lib.Dec.{eqb}
 use lib.ListN.{length, length-append}
 use Rattle.records.specs.declared.Record.{Record}
@@ -14,9 +15,10 @@ use Rattle.key.specs.Check.{rulesOf}
 use Rattle.key.specs.Inner.{seenIn, after}
 use Rattle.key.specs.Rules.{notOpen}
 use Rattle.key.specs.declared.Opening.{Opening}
-use Rattle.key.proofs.Befores.{opened-one, opened-most, count-append, open-last, head-stays, positive, not-nought, some-open}
+use Rattle.key.proofs.Befores.{opened-one, opened-most, count-append, open-last, head-stays, some-open}
 use Rattle.key.proofs.Kept.{Kept}
 use Rattle.key.proofs.Laid.{Onward}
+use Rattle.key.proofs.Numbers.{not-nought}
 
 follows : (before : List Record) (item : Record) → false ≡ eqb (length (before ++ (item ∷ []))) 0
 follows before item = sym (not-nought (length (before ++ (item ∷ []))) (omega (arith, length-append before (item ∷ []))))
@@ -86,15 +88,15 @@ module _ (before : List Record) where
 -- what is seen behind a record that keeps its rules and is no end
 pub seen-next : (before : List Record) (item : Record) → Onward item → Each Kept (rulesOf before item) →
     after (seenIn before) item ≡ seenIn (before ++ (item ∷ []))
-unfolding opened countOf rulesOf
+unfolding countOf rulesOf flatMap
 seen-next [] (Record.Head shape) on kept = refl
 seen-next (r ∷ before) (Record.Head shape) on kept =
     absurd (omega (arith, eqb-true (length (r ∷ before)) 0 (not-false _ (kept .0))))
 seen-next before (Record.Sparse shape) on kept =
-    opening-seen before (Record.Sparse shape) (record { kind = 0x02; shape = shape }) refl (positive (length before) (kept .0))
+    opening-seen before (Record.Sparse shape) (record { kind = 0x02; shape = shape }) refl (pos-of-ne-zero (eqb-false (length before) 0 (kept .0)))
     (count-same before 0x04 (Record.Sparse shape) refl) (count-same before 0x05 (Record.Sparse shape) refl)
 seen-next before (Record.Recursive shape) on kept =
-    opening-seen before (Record.Recursive shape) (record { kind = 0x03; shape = shape }) refl (positive (length before) (kept .0))
+    opening-seen before (Record.Recursive shape) (record { kind = 0x03; shape = shape }) refl (pos-of-ne-zero (eqb-false (length before) 0 (kept .0)))
     (count-same before 0x04 (Record.Recursive shape) refl) (count-same before 0x05 (Record.Recursive shape) refl)
 seen-next before (Record.Cell cell) on kept =
     passed-seen before (Record.Cell cell) (countOf 0x04 before + 1) (countOf 0x05 before) refl

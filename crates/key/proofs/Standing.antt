@@ -1,6 +1,6 @@
 -- Where the walk over a key's records stands before a record.
 use Prim.Native.Nat.{ℕ, suc, _+_, _≤_, _<_}
-use mathlib.Core.List.{List, [], _++_}
+use mathlib.Core.List.{flatMap, List, [], _++_}
 use mathlib.Core.Path.{_≡_, refl, ap}
 use native.Mathlib.Omega.{arith}
 use borrow.Author.Tests.{le-ltb}
@@ -36,7 +36,7 @@ pub record Here (key rows columns offsets : List ℕ) (seen : Seen) (at : ℕ) :
 pub begins : (key rows columns offsets : List ℕ) → length key ≤ 65536 →
     length rows ≡ 1024 → length columns ≡ 1024 → length offsets ≡ 1024 →
     ((i : ℕ) → getD rows i 0 ≡ 0) → ((i : ℕ) → getD columns i 0 ≡ 0) → Here key rows columns offsets (seenIn []) 0
-unfolding checkedKey opened startsIn
+unfolding checkedKey flatMap
 begins key rows columns offsets short r c o zr zc =
     record {
       past = [];

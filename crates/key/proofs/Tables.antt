@@ -1,32 +1,30 @@
 -- Tables that fill from their first place on.
 use Prim.Native.Nat.{ℕ, zero, suc, _+_, _≤_, _<_}
-use mathlib.Core.List.{List, [], _∷_, _++_, map, append-assoc, append-nil}
+use mathlib.Core.List.{List, [], _∷_, _++_, map, append-nil}
 use mathlib.Core.Path.{_≡_, refl, sym, ap, _∙_}
 use native.Mathlib.Decide.{decLe, ℕ-discrete}
-use native.Mathlib.Numerals.{add-one}
 use native.Mathlib.Omega.{arith}
 use lib.ListN.{replicate, length, getD, take, drop, set, length-append, length-set, List·getD-append, List·getD-eq-default}
-use lib.Seq.{take-suc, drop-cons, append-snoc, set-at, getD-at, getD-set-same, getD-set-other, length-take-le, take-suc-set}
+use lib.Seq.{paste, paste-suc, getD-at, getD-set-same, getD-set-other, length-take-le, take-suc-set}
 use Rattle.records.specs.declared.Shape.{Shape}
-use Rattle.key.specs.Before.{openingIn, openingAt}
-use Rattle.key.specs.Index.{startsIn, written}
+use Rattle.key.specs.Before.{openingAt}
+use Rattle.key.specs.Index.{written}
 use Rattle.key.specs.Inner.{stored}
-use Rattle.key.specs.Reading.{Located}
 use Rattle.key.specs.declared.Opening.{Opening}
 
--- a turn of the copy
+-- a turn of the copy, whose places so far are `paste to 0 from i`
 pub copy-step : (from to : List ℕ) (i : ℕ) → i < length from → i < length to →
-    set (take i from ++ drop i to) i (getD from i 0) ≡ take (i + 1) from ++ drop (i + 1) to
+    set (paste to 0 from i) i (getD from i 0) ≡ paste to 0 from (i + 1)
 copy-step from to i f t =
-    ap (λ (rest : List ℕ). set (take i from ++ rest) i (getD from i 0)) (drop-cons to i 0 t)
-    ∙ set-at (take i from) (getD to i 0) (drop (suc i) to) (getD from i 0) i (length-take-le i from (omega arith))
-    ∙ sym (append-snoc (take i from) (getD from i 0) (drop (suc i) to))
-    ∙ ap (λ (front : List ℕ). front ++ drop (suc i) to) (sym (take-suc from i 0 f))
-    ∙ rw add-one
+    let here : i ≡ 0 + i = omega arith in
+    let next : suc i ≡ i + 1 = omega arith in
+    ap (λ (j : ℕ). set (paste to 0 from i) j (getD from i 0)) here ∙ paste-suc to 0 from i 0 (omega arith) f ∙ ap (paste to 0 from) next
 
 -- the copy is done
-pub copy-done : (from to : List ℕ) (count : ℕ) → count ≤ length from → take count from ++ drop count to ≡ written (take count from) to
-copy-done from to count f = ap (λ (n : ℕ). take count from ++ drop n to) (sym (length-take-le count from f))
+pub copy-done : (from to : List ℕ) (count : ℕ) → count ≤ length from → paste to 0 from count ≡ written (take count from) to
+copy-done from to count f =
+    let long : 0 + count ≡ length (take count from) = omega (arith, length-take-le count from f) in
+    ap (λ (n : ℕ). take count from ++ drop n to) long
 
 -- ---- the shapes of the arrays
 
@@ -64,13 +62,6 @@ module _ (number : Shape → ℕ) (table : List ℕ) where
   holds-next openings (o ∷ x ∷ more) one room holds i = absurd (omega arith)
 
 -- ---- the offsets of the arrays
-
-pub starts-append : (past more : List Located) → startsIn (past ++ more) ≡ startsIn past ++ startsIn more
-unfolding startsIn
-starts-append [] more = refl
-starts-append (x ∷ past) more =
-    ap (λ (s : List ℕ). map (λ (o : Opening). x .at) (openingIn (x .item)) ++ s) (starts-append past more)
-    ∙ sym (append-assoc (map (λ (o : Opening). x .at) (openingIn (x .item))) (startsIn past) (startsIn more))
 
 pub stored-length : (number : Shape → ℕ) (table : List ℕ) (i : ℕ) (openings : List Opening) →
     length (stored number table i openings) ≡ length table

@@ -1,7 +1,7 @@
 -- What taking and judging a record means for the answer, from where the walk stands.
 use Prim.Native.Nat.{ℕ, zero, suc, _+_, _≤_, _<_}
 use mathlib.Core.Bool.{true, false}
-use mathlib.Core.List.{List, [], _∷_, _++_, map, map-append, append-nil}
+use mathlib.Core.List.{flatMap, List, [], _∷_, _++_, map, map-append, append-nil}
 use mathlib.Core.Path.{_≡_, sym, ap, ap₂, _∙_}
 use native.Mathlib.Omega.{arith}
 use lib.ListN.{length, getD, take, length-append}
@@ -22,13 +22,14 @@ use Rattle.key.specs.declared.Opening.{Opening}
 use Rattle.key.specs.declared.rules.Verdict.{Verdict}
 use Rattle.key.specs.declared.seen.Seen.{Seen}
 use Rattle.key.proofs.Befores.{opened-one, one-opening}
+use Rattle.key.proofs.Joined.{flatMap-append}
 use Rattle.key.proofs.Kept.{Kept}
 use Rattle.key.proofs.Laid.{Onward, behind-onward}
 use Rattle.key.proofs.Readings.{read-record, read-stopped}
 use Rattle.key.proofs.Seeing.{verdict-judges, verdict-kept, counts-end, is-end, is-onward}
 use Rattle.key.proofs.SeenNext.{seen-next, arrays-next}
 use Rattle.key.proofs.Standing.{Here}
-use Rattle.key.proofs.Tables.{Holds, holds-next, starts-append, stored-length, starts-next}
+use Rattle.key.proofs.Tables.{Holds, holds-next, stored-length, starts-next}
 use Rattle.key.proofs.Verdicts.{settled}
 
 -- a list of located records with one more
@@ -37,7 +38,7 @@ items-one past x = map-append (λ (y : Located). y .item) past (x ∷ [])
 
 module _ {key rows columns offsets : List ℕ} {seen : Seen} {at : ℕ} (H : Here key rows columns offsets seen at) where
   -- there is a step left
-  pub record Ready : Type 0 where
+  record Ready : Type 0 where
     pub later : ℕ
     pub enough : length key < at + suc later
     pub read : locatedIn (readingOf key) ≡ H .past ++ locatedIn (readFrom (suc later) key at)
@@ -95,10 +96,10 @@ module _ {key rows columns offsets : List ℕ} {seen : Seen} {at : ℕ} (H : Her
           ∙ ap given (counts-end (items (H .past)) ∙ ap countsSeen (sym (H .seen-is)))
 
       pub noted : isEnd item ≡ true → startsOf key ≡ take (seen .arrays) offsets
-      unfolding locatedIn startsIn
+      unfolding locatedIn flatMap
       noted end =
           ap startsIn (ready .read)
-          ∙ starts-append (H .past) (locatedIn (readFrom (suc (ready .later)) key at))
+          ∙ flatMap-append (λ (x : Located). map (λ (o : Opening). x .at) (openingIn (x .item))) (H .past) (locatedIn (readFrom (suc (ready .later)) key at))
           ∙ ap (λ (r : Reading). startsIn (H .past) ++ startsIn (locatedIn r)) (read-record (ready .later) key at item next e)
           ∙ ap (λ (r : Record). startsIn (H .past) ++
           startsIn (locatedIn (located (record { item = r; at = at; next = next }) (behind r (readFrom (ready .later) key next)))))
@@ -150,7 +151,7 @@ module _ {key rows columns offsets : List ℕ} {seen : Seen} {at : ℕ} (H : Her
       pub goes-on :
           Here key (stored rowsIn rows (seen .arrays) (openingIn item)) (stored columnsIn columns (seen .arrays) (openingIn item))
           (stored (λ shape. at) offsets (seen .arrays) (openingIn item)) (after seen item) next
-      unfolding before this locatedIn startsIn
+      unfolding before this locatedIn flatMap
       goes-on =
           record {
             past = H .past ++ (this ∷ []);
@@ -171,7 +172,7 @@ module _ {key rows columns offsets : List ℕ} {seen : Seen} {at : ℕ} (H : Her
                 ∙ starts-next (opened before) (openingIn item) offsets at (one-opening item) (omega (arith, arrays-fit, H .offsets-length))
                 ∙ ap (λ (s : List ℕ). s ++ map (λ opening. at) (openingIn item)) (H .offsets-hold)
                 ∙ ap (λ (s : List ℕ). startsIn (H .past) ++ s) (sym (append-nil (map (λ opening. at) (openingIn item))))
-                ∙ sym (starts-append (H .past) (this ∷ []));
+                ∙ sym (flatMap-append (λ (x : Located). map (λ (o : Opening). x .at) (openingIn (x .item))) (H .past) (this ∷ []));
             read =
                 ready .read
                 ∙ ap (λ (r : Reading). H .past ++ locatedIn r)

@@ -1,7 +1,7 @@
 -- What the records before a record say: the head's shape, the arrays that they open, and how many cells and calls they are.
 use Prim.Native.Nat.{ℕ, _+_, _-_}
 use mathlib.Core.Bool.{cond}
-use mathlib.Core.List.{List, [], _∷_, _++_}
+use mathlib.Core.List.{List, [], _∷_, flatMap}
 use lib.Dec.{eqb}
 use lib.ListN.{length, getD}
 use Rattle.records.specs.Kinds.{kindOf}
@@ -19,9 +19,8 @@ openingIn (Record.Call call) = []
 openingIn Record.End = []
 
 -- the openings among some records: array i is opened by the one numbered i
-unfoldable pub opened : List Record → List Opening
-opened [] = []
-opened (r ∷ records) = openingIn r ++ opened records
+abbrev pub opened : List Record → List Opening
+opened records = flatMap openingIn records
 
 -- the opening numbered i; of no kind where there is none
 abbrev pub openingAt : List Opening → ℕ → Opening

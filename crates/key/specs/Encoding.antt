@@ -1,6 +1,6 @@
 -- The key of some arrays: the records that 01's 'An accepted key' asks for, and their bytes.
 use Prim.Native.Nat.{ℕ}
-use mathlib.Core.List.{List, [], _∷_, _++_, map}
+use mathlib.Core.List.{List, [], _∷_, _++_, map, flatMap}
 use Rattle.records.specs.Kinds.{encoded}
 use Rattle.records.specs.declared.Record.{Record}
 use Rattle.arrays.specs.Arrays.{Cell, Call, Entries, cells, calls, Array}
@@ -30,8 +30,7 @@ arrayRecords array =
 
 -- those of some arrays, one behind the other
 abbrev pub arraysRecords : List Array → List Record
-arraysRecords [] = []
-arraysRecords (array ∷ arrays) = arrayRecords array ++ arraysRecords arrays
+arraysRecords arrays = flatMap arrayRecords arrays
 
 -- the records of a key whose head has n row bits and n' column bits: the head, the arrays and the end
 abbrev pub keyRecords : ℕ → ℕ → List Array → List Record
@@ -39,8 +38,7 @@ keyRecords n n' arrays = headRecord n n' ∷ (arraysRecords arrays ++ (Record.En
 
 -- the bytes of some records, one behind the other
 abbrev pub bytesOfAll : List Record → List ℕ
-bytesOfAll [] = []
-bytesOfAll (r ∷ records) = encoded r ++ bytesOfAll records
+bytesOfAll records = flatMap encoded records
 
 abbrev pub keyBytes : ℕ → ℕ → List Array → List ℕ
 keyBytes n n' arrays = bytesOfAll (keyRecords n n' arrays)

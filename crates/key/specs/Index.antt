@@ -1,6 +1,6 @@
 -- Where a key's arrays begin, and what the index leaves in its table.
 use Prim.Native.Nat.{ℕ, _+_, _-_, _<_}
-use mathlib.Core.List.{List, [], _∷_, _++_, map}
+use mathlib.Core.List.{List, [], _∷_, _++_, map, flatMap}
 use mathlib.Core.Path.{_≡_}
 use lib.ListN.{length, getD, drop}
 use Rattle.refusal.specs.Outcome.{Outcome, given, refused}
@@ -16,9 +16,8 @@ use Rattle.key.specs.Reading.{Located, readingOf, locatedIn}
 use Rattle.key.specs.declared.Counts.{Counts}
 
 -- the offsets of the openings among some records
-unfoldable pub startsIn : List Located → List ℕ
-startsIn [] = []
-startsIn (x ∷ records) = map (λ opening. x .at) (openingIn (x .item)) ++ startsIn records
+abbrev pub startsIn : List Located → List ℕ
+startsIn records = flatMap (λ x. map (λ opening. x .at) (openingIn (x .item))) records
 
 -- the offset of each array of a key
 abbrev pub startsOf : List ℕ → List ℕ

@@ -21,7 +21,7 @@ use Rattle.records.proofs.Fields.{length-fields, fields-back, bytes-dro
 use Rattle.records.proofs.Numbers.{AreBytes, drop-from}
 use Rattle.records.proofs.Putting.{untouched, Room, given-room, record-put}
 use Rattle.records.proofs.Sizes.{size-encoded}
-use Rattle.records.proofs.Taking.{found, record-given, Whole, given-whole}
+use Rattle.records.proofs.Taking.{found, record-given, Whole, given-whole, given-onward}
 
 -- a record whose bytes stand between any others is taken
 pub taken-between : (r : Record) (before behind : List ℕ) → Fitting r →
@@ -87,8 +87,8 @@ module _ (bytes : List ℕ) (are : AreBytes bytes) (at next : ℕ) (r : Record) 
   end = ap (λ (t : Found). t .next) (whole .is)
 
   onward : (at < next) × (next ≤ length bytes)
-  unfolding widths
-  onward = omega (arith, end, whole .room)
+  unfolding taken
+  onward = given-onward bytes at taken e
 
   body : fieldBytes (widthsOf (kindOf r)) (fieldsOf r) ≡ take (total widths) (drop (at + 1) bytes)
   unfolding taken widths

@@ -121,3 +121,9 @@ given-whole bytes at t e =
         let answer : given t ≡ given (found at (getD bytes at 0) (widthsOf (getD bytes at 0)) (drop (at + 1) bytes)) =
         sym e ∙ record-given bytes at l z room in
         record { inside = l; known = size; room = omega arith; is = cc }
+
+-- it has a byte or more, and its end lies in the bytes
+pub given-onward : (bytes : List ℕ) (at : ℕ) (t : Found) → takenAt bytes at ≡ given t → (at < t .next) × (t .next ≤ length bytes)
+given-onward bytes at t e =
+    let whole = given-whole bytes at t e in
+    omega (arith, ap (λ (u : Found). u .next) (whole .is), whole .room)

@@ -1,3 +1,4 @@
+-- `key::index` meets its contract: the walk stands where `Here` says, and each way out of it is a case of the definition.
 use Prim.Native.Nat.{ℕ, _-_, _≤_, _<_}
 use mathlib.Core.List.{List}
 use mathlib.Core.Path.{_≡_, refl, sym, ap, _∙_}
@@ -10,11 +11,11 @@ use Rattle.refusal.specs.Outcome.{given}
 use Rattle.records.specs.Take.{takenOutcome, takenAt}
 use Rattle.records.specs.declared.Record.{Record}
 use Rattle.records.specs.declared.Taken.{Taken}
+use Rattle.records.proofs.Taking.{given-onward}
 use Rattle.key.specs.Index.{written}
 use Rattle.key.specs.Inner.{countsSeen, notTaken}
 use Rattle.key.specs.declared.Checked.{Checked}
 use Rattle.key.proofs.Promises.{too-long, refused-promise, accepted-promise}
-use Rattle.key.proofs.Readings.{onward}
 use Rattle.key.proofs.Standing.{Here, begins, counts-below, arrays-below}
 use Rattle.key.proofs.Tables.{zeros}
 use Rattle.key.proofs.Walk.{stops, breaks, ends, noted, goes-on}
@@ -47,7 +48,7 @@ took : (c : tie.After-known-told Inv-loop μ-loop) → takenAt (key c) (turn c .
 took c = sym (c .before .before .before .take .ensures .0) ∙ ap takenOutcome (c .before .taken .given .1)
 
 ahead : (c : tie.After-known-told Inv-loop μ-loop) → (turn c .loop .at < next c) × (next c ≤ length (key c))
-ahead c = onward (key c) (turn c .loop .at) _ (took c)
+ahead c = given-onward (key c) (turn c .loop .at) _ (took c)
 
 refused-requires : tie.Need-refused-requires Inv-loop μ-loop
 refused-requires c κs = search needs

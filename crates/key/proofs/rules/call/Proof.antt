@@ -1,6 +1,6 @@
 -- `key::rules::call` meets its contract: each rule is tried in turn, and `arrays - 1 ≤ id` as `arrays ≤ id + 1`.
 use borrow.Author.Needs.{needs}
-use Rattle.key.proofs.Powers.{less-one}
+use Rattle.key.proofs.Numbers.{less-one}
 use Rattle.key.proofs.rules.call.Statement.{statement}
 use Rattle.key.proofs.rules.call.Tie as tie
 

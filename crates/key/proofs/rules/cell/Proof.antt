@@ -28,7 +28,17 @@ unless-requires-6 : tie.Need-unless-requires-6
 unless-requires-6 c κs = search needs
 
 returns : tie.Need-returns
-returns c = cc
+returns c =
+    rw (
+      c .unless6 .ensures,
+      c .before .before .unless5 .ensures,
+      c .before .before .before .before .unless4 .ensures,
+      c .before .before .before .before .before .before .unless3 .ensures,
+      c .before .before .before .before .before .before .before .outside2 .ensures,
+      c .before .before .before .before .before .before .before .before .unless2 .ensures,
+      c .before .before .before .before .before .before .before .before .before .outside .ensures,
+      c .before .before .before .before .before .before .before .before .before .before .unless .ensures,
+    )
 
 pub cell-spec : {M : Type 1} → statement M
 cell-spec =

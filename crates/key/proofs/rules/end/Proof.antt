@@ -16,7 +16,13 @@ unless-requires-4 : tie.Need-unless-requires-4
 unless-requires-4 c κs = search needs
 
 returns : tie.Need-returns
-returns c = cc
+returns c =
+    rw (
+      c .unless4 .ensures,
+      c .before .unless3 .ensures,
+      c .before .before .before .before .unless2 .ensures,
+      c .before .before .before .before .before .before .before .unless .ensures,
+    )
 
 pub end-spec : {M : Type 1} → statement M
 end-spec =

@@ -13,7 +13,7 @@ unless-requires-3 : tie.Need-unless-requires-3
 unless-requires-3 c κs = search needs
 
 returns : tie.Need-returns
-returns c = cc
+returns c = rw (c .unless3 .ensures, c .before .before .unless2 .ensures, c .before .before .before .before .unless .ensures)
 
 pub head-spec : {M : Type 1} → statement M
 head-spec = tie.close (tie.spec unless-requires unless-requires-2 unless-requires-3 returns)

@@ -1,22 +1,23 @@
 -- `key::table::copy` meets its contract: the first places are copied, one a turn.
 use Prim.Native.Nat.{ℕ, _≤_, _-_}
-use mathlib.Core.List.{List, _++_}
+use mathlib.Core.List.{List}
 use mathlib.Core.Path.{refl, ap, _∙_, _≡_}
 use native.Mathlib.Omega.{arith}
 use denote.Ref.{now}
-use lib.ListN.{length, getD, set, take, drop, length-set}
+use lib.ListN.{length, getD, set, length-set}
+use lib.Seq.{paste, paste-zero}
 use Rattle.key.proofs.Tables.{copy-step, copy-done}
 use Rattle.key.proofs.table.copy.Statement.{statement}
 use Rattle.key.proofs.table.copy.Tie as tie
 
 abbrev Inv-loop : tie.InvT-loop
-Inv-loop from count to₀ i₀ to i = (to ≡ take i from ++ drop i to₀) × ((i ≤ count) × (length to ≡ length to₀))
+Inv-loop from count to₀ i₀ to i = (to ≡ paste to₀ 0 from i) × ((i ≤ count) × (length to ≡ length to₀))
 
 abbrev μ-loop : tie.MeasureT-loop
 μ-loop from count to₀ i₀ to i = count - i
 
 loop-holds : tie.Need-loop-holds Inv-loop μ-loop
-loop-holds c = (refl, (omega arith, refl))
+loop-holds c = (paste-zero (now (c .args .to)) 0 (now (c .args .from)), (omega arith, refl))
 
 mul-to : tie.Need-mul-to Inv-loop μ-loop
 mul-to c = omega arith
@@ -53,7 +54,7 @@ returns c =
     let l = c .before .loop in
     let a = c .before .before in
     let e : l .i ≡ a .args .count = omega arith in
-    l .inv .0 ∙ ap (λ (n : ℕ). take n (now (a .args .from)) ++ drop n (now (a .args .to))) e
+    l .inv .0 ∙ ap (paste (now (a .args .to)) 0 (now (a .args .from))) e
     ∙ copy-done (now (a .args .from)) (now (a .args .to)) (a .args .count) (a .pre .0)
 
 pub copy-spec : {M : Type 1} → statement M

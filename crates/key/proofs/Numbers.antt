@@ -1,12 +1,12 @@
--- Powers of two, as a shift gives them and as a number of 32 bits meets them.
+-- Powers of two and tests of numbers, as the code meets them.
 use Prim.Native.Nat.{ℕ, _+_, _-_, _*_, _%_, _^_, _≤_, _<_}
 use mathlib.Core.Bool.{false}
 use mathlib.Core.Path.{_≡_, sym, _∙_}
 use native.Mathlib.Decide.{decLe}
 use native.Mathlib.Nat.{one-mul, lt-of-lt-of-le}
 use native.Mathlib.Omega.{arith}
-use borrow.Author.Tests.{le-leb, lt-leb}
-use lib.Dec.{leb, lit<}
+use borrow.Author.Tests.{ne-eqb, le-leb, lt-leb}
+use lib.Dec.{eqb, leb, lit<}
 use lib.Pow.{shl-exact, pow-mono}
 
 -- `1 << bits` in 64 bits
@@ -24,3 +24,6 @@ less-one a b =
       | yes l ↦ le-leb (a - 1) b (omega arith) ∙ sym (le-leb a (b + 1) l)
       | no l ↦ lt-leb (a - 1) b (omega arith) ∙ sym (lt-leb a (b + 1) (omega arith))
     ]
+
+pub not-nought : (m : ℕ) → 0 < m → eqb m 0 ≡ false
+not-nought m some = ne-eqb m 0 (λ e. omega arith)
