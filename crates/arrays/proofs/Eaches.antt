@@ -1,5 +1,6 @@
 -- Lists of which something holds for each element.
 use mathlib.Core.List.{List, [], _∷_, _++_, map}
+use mathlib.Core.Path.{_≡_, refl, ap₂}
 use Rattle.arrays.specs.WellFormed.{Each}
 
 pub each-to : {A : Type 0} (P Q : A → Type 0) → ((x : A) → P x → Q x) → (xs : List A) → Each P xs → Each Q xs
@@ -20,3 +21,9 @@ each-map P Q f h (x ∷ xs) each = (h x (each .0), each-map P Q f h xs (each .1)
 pub each-mapped : {A B : Type 0} (Q : B → Type 0) (f : A → B) → ((x : A) → Q (f x)) → (xs : List A) → Each Q (map f xs)
 each-mapped Q f h [] = tt
 each-mapped Q f h (x ∷ xs) = (h x, each-mapped Q f h xs)
+
+-- functions that agree where it holds have the same images
+pub each-map-same : {A B : Type 0} (P : A → Type 0) (f g : A → B) → ((x : A) → P x → f x ≡ g x) →
+    (xs : List A) → Each P xs → map f xs ≡ map g xs
+each-map-same P f g same [] each = refl
+each-map-same P f g same (x ∷ xs) each = ap₂ _∷_ (same x (each .0)) (each-map-same P f g same xs (each .1))

@@ -1,2 +1,12 @@
+pub mod Parts
 pub mod Eaches
 pub mod Growing
+pub mod Prefixes
+pub mod Placed
+pub mod Denses
+pub mod Shapes
+pub mod Entries
+pub mod Passes
+pub mod Lemma2
+pub mod AtBits
+pub mod Examples

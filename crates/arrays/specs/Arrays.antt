@@ -9,6 +9,21 @@ pub record Values : Type 0 where
   pub b : ℕ
   pub c : ℕ
 
+-- which of the three
+pub data Part : Type 0 where
+  A : Part
+  B : Part
+  C : Part
+
+abbrev pub valueOf : Part → Values → ℕ
+valueOf A values = values .a
+valueOf B values = values .b
+valueOf C values = values .c
+
+-- the values whose parts are these
+abbrev pub valuesBy : (Part → ℕ) → Values
+valuesBy part = record { a = part A; b = part B; c = part C }
+
 pub record Cell : Type 0 where
   pub row : ℕ
   pub column : ℕ

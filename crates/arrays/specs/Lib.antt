@@ -2,3 +2,6 @@ pub mod Arrays
 pub mod Totals
 pub mod Placing
 pub mod WellFormed
+pub mod Dense
+pub mod Side
+pub mod Pass
