@@ -3,3 +3,4 @@ pub mod Divisors
 pub mod Inverses
 pub mod FpField
 pub mod Answers
+pub mod Choices

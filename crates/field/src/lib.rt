@@ -3,7 +3,9 @@
 use refusal::Reason;
 use refusal::Refusal;
 ghost use mathlib.Core.Path.{_≡_};
+ghost use mathlib.Core.Bool.{cond};
 ghost use Prim.Native.Nat.{_<_};
+ghost use lib.Dec.{eqb};
 ghost use Rattle.refusal.specs.Outcome.{refuse};
 ghost use Rattle.field.specs.Fp.{p, fp};
 ghost use Rattle.field.specs.Answer.{answerOutcome, operated};
@@ -54,6 +56,17 @@ impl Fp {
         ensures { λ r. ⌜ r ≡ self .0 ⌝ }
     {
         self.0
+    }
+
+    // The first element where the bit is 1, the second where it is 0. No branch is taken, so that bits without a pattern cost
+    // no more than others. Inner: the bit is 0 or 1.
+    pub fn choose(bit: u32, first: Fp, second: Fp) -> Fp
+        requires { ⌜ bit < 2 ⌝ }
+        ensures { λ r. ⌜ r .0 ≡ cond (eqb bit 1) (first .0) (second .0) ⌝ }
+    {
+        let one = bit * first.0;
+        let other = (1 - bit) * second.0;
+        Fp(one + other)
     }
 
     // The sum. Inner: both are below p.

@@ -15,6 +15,7 @@ ghost use lib.ListN.{length};
 ghost use Rattle.refusal.specs.Outcome.{refuse};
 ghost use Rattle.key.specs.Check.{checkedOutcome, checkedKey};
 ghost use Rattle.key.specs.Index.{indexedKey};
+ghost use Rattle.key.specs.Rules.{outside};
 ghost use Rattle.key.specs.Inner.{isEnd, notTaken};
 
 // The counts of an accepted key over its records, and the head's row bits and column bits.
@@ -91,8 +92,8 @@ pub fn index(key: &[u8], starts: &mut [u32]) -> Checked
     }
 }
 
-// A refusal.
-fn refused(reason: Reason, place: usize) -> Checked
+// The refusal for a reason at a place. Inner: it requires nothing.
+pub fn refused(reason: Reason, place: usize) -> Checked
     ensures { λ r. ⌜ checkedOutcome r ≡ refuse reason place ⌝ }
 {
     Checked::Refused(Refusal {
@@ -122,5 +123,17 @@ fn is_end(item: Record) -> bool
         Record::Cell(_) => false,
         Record::Call(_) => false,
         Record::End => true,
+    }
+}
+
+// Whether an address is outside a side of so many bits: 2^bits or more. Inner: it requires nothing.
+pub fn outside(bits: u8, address: u32) -> bool
+    ensures { λ r. ⌜ r ≡ outside bits address ⌝ }
+{
+    if bits < 32 {
+        let power = 1u64 << bits;
+        power <= address as u64
+    } else {
+        false
     }
 }

@@ -1,5 +1,6 @@
 // The rules that a record must keep, in the order of 01.
 use crate::Opening;
+use crate::outside;
 use crate::seen::Seen;
 use crate::table;
 use field::Fp;
@@ -141,18 +142,6 @@ impl Verdict {
                 Verdict::Kept
             }
         }
-    }
-}
-
-// Whether an address is 2^bits or more.
-fn outside(bits: u8, address: u32) -> bool
-    ensures { λ r. ⌜ r ≡ leb (2 ^ bits) address ⌝ }
-{
-    if bits < 32 {
-        let power = 1u64 << bits;
-        power <= address as u64
-    } else {
-        false
     }
 }
 

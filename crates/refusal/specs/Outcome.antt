@@ -17,3 +17,8 @@ refuse reason place = refused (numberOf reason) place
 -- what a refusal says
 abbrev pub refusalOf : {A : Type 0} → Refusal → Outcome A
 refusalOf r = refuse (r .reason) (r .place)
+
+-- a judgement, and behind it, where nothing is refused, the next
+abbrev pub andThen : {A B : Type 0} → Outcome A → (A → Outcome B) → Outcome B
+andThen (given values) next = next values
+andThen (refused number place) next = refused number place

@@ -1,9 +1,9 @@
--- `key::rules::outside` meets its contract: a number of 32 bits is below every power from 2^32 on.
+-- `key::outside` meets its contract: a number of 32 bits is below every power from 2^32 on.
 use native.Mathlib.Omega.{arith}
 use borrow.Author.Needs.{needs}
 use Rattle.key.proofs.Numbers.{one-shl, below-power}
-use Rattle.key.proofs.rules.outside.Statement.{statement}
-use Rattle.key.proofs.rules.outside.Tie as tie
+use Rattle.key.proofs.outside.Statement.{statement}
+use Rattle.key.proofs.outside.Tie as tie
 
 shl-power : tie.Need-shl-power
 shl-power c = search needs

@@ -1,0 +1,68 @@
+-- What is known of a call that nothing refuses.
+use Prim.Native.Nat.{ℕ, _*_, _^_, _≤_, _<_}
+use mathlib.Core.Bool.{Bool, true, false}
+use mathlib.Core.List.{List}
+use mathlib.Core.Path.{_≡_, refl, sym, subst, _∙_}
+use native.Mathlib.Decide.{ℕ-discrete, decLe}
+use native.Mathlib.Omega.{arith}
+use borrow.Author.Tests.{leb-false}
+use lib.Dec.{leb}
+use lib.ListN.{length}
+use Rattle.refusal.specs.Outcome.{Outcome, given, refused, andThen}
+use Rattle.refusal.proofs.Outcomes.{given-injective, given-not-refused}
+use Rattle.key.specs.declared.Counts.{Counts}
+use Rattle.evaluate.specs.Inner.{Coordinates}
+use Rattle.evaluate.specs.Judged.{firstOver, pointJudged, placeJudged, sheetJudged}
+use Rattle.evaluate.proofs.FirstOver.{none-over}
+use Rattle.evaluate.proofs.Judgements.{sheet-short, sheet-enough, row-outside, column-outside, both-inside, row-count-wrong, column-count-wrong, row-over, column-over, point-given}
+
+-- where a judgement gives counts, they are those that it judged, and something holds of them
+abbrev pub Gives : (Counts → Outcome Counts) → (Counts → Type 0) → Type 0
+Gives judge Holds = (c counts : Counts) → judge c ≡ given counts → (c ≡ counts) × Holds c
+
+-- behind another judgement
+pub then-gives : (judge : Counts → Outcome Counts) (Holds : Counts → Type 0) → Gives judge Holds →
+    (first : Outcome Counts) (counts : Counts) → andThen first judge ≡ given counts → (first ≡ given counts) × Holds counts
+then-gives judge Holds gives (refused number place) counts e = absurd (given-not-refused (sym e))
+then-gives judge Holds gives (given c) counts e =
+    let known = gives c counts e in (λ i. given (known .0 i), subst Holds (known .0) (known .1))
+
+pub sheet-gives : (width places : ℕ) → Gives (sheetJudged width places) (λ c. width * c .arrays ≤ places)
+sheet-gives width places c counts e = go (decLe (width * c .arrays) places)
+  where
+    go : Dec (width * c .arrays ≤ places) → (c ≡ counts) × (width * c .arrays ≤ places)
+    go (yes enough) = (given-injective (sym (sheet-enough width places c enough) ∙ e), enough)
+    go (no short) = absurd (given-not-refused (sym e ∙ sheet-short width places c (omega arith)))
+
+pub place-gives : (row column : ℕ) → Gives (placeJudged row column) (λ c. (row < 2 ^ (c .rows)) × (column < 2 ^ (c .columns)))
+place-gives row column c counts e = go (leb (2 ^ (c .rows)) row) refl (leb (2 ^ (c .columns)) column) refl
+  where
+    go : (outside : Bool) → leb (2 ^ (c .rows)) row ≡ outside → (outside' : Bool) → leb (2 ^ (c .columns)) column ≡ outside' →
+        (c ≡ counts) × ((row < 2 ^ (c .rows)) × (column < 2 ^ (c .columns)))
+    go true f outside' g = absurd (given-not-refused (sym e ∙ row-outside row column c f))
+    go false f true g = absurd (given-not-refused (sym e ∙ column-outside row column c f g))
+    go false f false g = (
+      given-injective (sym (both-inside row column c f g) ∙ e),
+      (leb-false (2 ^ (c .rows)) row f, leb-false (2 ^ (c .columns)) column g),
+    )
+
+pub point-gives : (rows columns : List ℕ) →
+    Gives (pointJudged rows columns) (λ c. Coordinates (c .rows) rows × Coordinates (c .columns) columns)
+point-gives rows columns c counts e =
+    go (ℕ-discrete (length rows) (c .rows)) (ℕ-discrete (length columns) (c .columns))
+    (decLe (length rows) (firstOver rows)) (decLe (length columns) (firstOver columns))
+  where
+    go : Dec (length rows ≡ c .rows) → Dec (length columns ≡ c .columns) → Dec (length rows ≤ firstOver rows) →
+        Dec (length columns ≤ firstOver columns) → (c ≡ counts) × (Coordinates (c .rows) rows × Coordinates (c .columns) columns)
+    go (no wrong) _ _ _ = absurd (given-not-refused (sym e ∙ row-count-wrong rows columns c wrong))
+    go (yes n) (no wrong) _ _ = absurd (given-not-refused (sym e ∙ column-count-wrong rows columns c n wrong))
+    go (yes n) (yes n') (no over) _ = absurd (given-not-refused (sym e ∙ row-over rows columns c n n' (omega arith)))
+    go (yes n) (yes n') (yes below) (no over) =
+        absurd (given-not-refused (sym e ∙ column-over rows columns c n n' below (omega arith)))
+    go (yes n) (yes n') (yes below) (yes below') = (
+      given-injective (sym (point-given rows columns c n n' below below') ∙ e),
+      (
+        record { enough = omega arith; below = none-over rows below },
+        record { enough = omega arith; below = none-over columns below' },
+      ),
+    )

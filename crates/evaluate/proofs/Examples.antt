@@ -1,0 +1,95 @@
+-- The key of 01's keysheet input, evaluated and cell by cell, with its sheet, and a call for each refusal of a point, a place and
+-- a sheet.
+use Prim.Native.Nat.{ℕ, _-_}
+use mathlib.Core.List.{List, [], _∷_, flatMap, map}
+use mathlib.Core.Path.{_≡_, refl}
+use lib.ListN.{replicate}
+use Rattle.refusal.specs.Number.{numberOf}
+use Rattle.refusal.specs.Outcome.{Outcome, given, refused}
+use Rattle.algebra.specs.Arithmetic.{sumBelow}
+use Rattle.field.specs.Fp.{p}
+use Rattle.records.specs.Kinds.{recordOf}
+use Rattle.records.specs.Take.{takenAs, takenFrom, takenAt}
+use Rattle.records.proofs.Examples.{key}
+use Rattle.multilinear.specs.Extension.{weighted}
+use Rattle.multilinear.specs.Matrix.{moved}
+use Rattle.multilinear.specs.Weight.{weight, bits}
+use Rattle.arrays.specs.Arrays.{Values}
+use Rattle.arrays.specs.Dense.{summed, entriesMatrix, matricesBelow}
+use Rattle.key.specs.Before.{countOf}
+use Rattle.key.specs.Check.{firstBroken, rulesOf, rulesBehind, judged, checkedKey}
+use Rattle.key.specs.KeyArrays.{cellsFirst, callsFirst, arraysOf}
+use Rattle.key.specs.Reading.{readAt, readFrom, locatedIn}
+use Rattle.evaluate.specs.Cell.{celled}
+use Rattle.evaluate.specs.Evaluate.{Evaluation, concluded, evaluated}
+use Rattle.evaluate.specs.Judged.{firstOver, pointJudged, placeJudged, sheetJudged}
+use Rattle.evaluate.specs.Sheet.{wordsBelow}
+
+-- every array's numbers, and behind them what was there
+sheet : evaluated key (3 ∷ []) (4 ∷ []) (replicate 8 9) .sheet ≡ 20 ∷ 28 ∷ 0 ∷ 2147483567 ∷ 2147483535 ∷ 0 ∷ 9 ∷ 9 ∷ []
+unfolding
+    concluded wordsBelow weight weighted sumBelow moved summed entriesMatrix matricesBelow
+    checkedKey judged rulesOf rulesBehind firstBroken flatMap countOf readFrom readAt locatedIn takenAt takenFrom takenAs recordOf
+    arraysOf cellsFirst callsFirst firstOver pointJudged sheetJudged
+sheet = refl
+
+-- the two calls both put the cell at row 0 and column 1
+abbrev answer : Evaluation → Outcome Values
+answer e = e .answer
+
+cells :
+    map (λ (place : ℕ × ℕ). celled key (place .0) (place .1) (replicate 6 9) .answer) ((0, 0) ∷ (0, 1) ∷ (1, 0) ∷ (1, 1) ∷ []) ≡
+    given (record { a = 0; b = 0; c = 0 }) ∷
+    given (record { a = 10; b = 14; c = 0 }) ∷
+    given (record { a = 0; b = 0; c = 0 }) ∷
+    given (record { a = 0; b = 0; c = 0 }) ∷ []
+unfolding
+    concluded moved summed entriesMatrix matricesBelow
+    checkedKey judged rulesOf rulesBehind firstBroken flatMap countOf readFrom readAt locatedIn takenAt takenFrom takenAs recordOf
+    arraysOf cellsFirst callsFirst placeJudged sheetJudged
+cells = refl
+
+-- at row 0 and column 1 array 0 has its cell, and array 1 both calls
+cell-sheet : celled key 0 1 (replicate 7 9) .sheet ≡ 5 ∷ 7 ∷ 0 ∷ 10 ∷ 14 ∷ 0 ∷ 9 ∷ []
+unfolding
+    concluded wordsBelow weight bits weighted sumBelow moved summed entriesMatrix matricesBelow
+    checkedKey judged rulesOf rulesBehind firstBroken flatMap countOf readFrom readAt locatedIn takenAt takenFrom takenAs recordOf
+    arraysOf cellsFirst callsFirst placeJudged sheetJudged
+cell-sheet = refl
+
+-- ---- refusals, in the order of the numbers: each call's later faults do not count
+
+abbrev refusals : List Evaluation
+refusals =
+    -- the empty key
+    evaluated [] [] [] [] ∷
+    -- no row coordinate, and two
+    evaluated key [] [] [] ∷
+    evaluated key (p ∷ p ∷ []) [] [] ∷
+    -- no column coordinate
+    evaluated key (p ∷ []) [] [] ∷
+    -- coordinates p or more, the row first
+    evaluated key (p ∷ []) (p ∷ []) [] ∷
+    evaluated key ((p - 1) ∷ []) (p ∷ []) [] ∷
+    -- a row and a column outside the last array
+    celled key 2 2 [] ∷
+    celled key 1 2 [] ∷
+    -- sheets one place too short
+    evaluated key (3 ∷ []) (4 ∷ []) (replicate 5 9) ∷
+    celled key 1 1 (replicate 5 9) ∷ []
+
+refused-all :
+    map answer refusals ≡
+    refused 2 0 ∷
+    refused 21 0 ∷ refused 21 2 ∷ refused 22 0 ∷ refused 23 0 ∷ refused 23 1 ∷
+    refused 24 0 ∷ refused 24 1 ∷ refused 31 6 ∷ refused 31 6 ∷ []
+unfolding
+    concluded checkedKey judged rulesOf rulesBehind firstBroken flatMap countOf readFrom readAt takenAt takenFrom takenAs recordOf
+    firstOver pointJudged placeJudged sheetJudged numberOf
+refused-all = refl
+
+untouched : map (λ (e : Evaluation). e .sheet) refusals ≡ [] ∷ [] ∷ [] ∷ [] ∷ [] ∷ [] ∷ [] ∷ [] ∷ replicate 5 9 ∷ replicate 5 9 ∷ []
+unfolding
+    concluded checkedKey judged rulesOf rulesBehind firstBroken flatMap countOf readFrom readAt takenAt takenFrom takenAs recordOf
+    firstOver pointJudged placeJudged sheetJudged numberOf
+untouched = refl

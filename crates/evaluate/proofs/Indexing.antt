@@ -1,0 +1,109 @@
+-- What stands at the offsets of an accepted key that is indexed: each array's opening, and its entries behind it.
+use Prim.Native.Nat.{ℕ, _+_, _-_, _≤_, _<_}
+use mathlib.Core.List.{List, [], _∷_, _++_}
+use mathlib.Core.Path.{_≡_, refl, sym, ap, subst, _∙_}
+use native.Mathlib.Omega.{arith}
+use lib.ListN.{length, getD, List·getD-append}
+use lib.Seq.{getD-at}
+use Rattle.refusal.specs.declared.Refusal.{Refusal}
+use Rattle.refusal.proofs.Outcomes.{given-not-refused}
+use Rattle.records.specs.Kinds.{encoded}
+use Rattle.records.specs.Take.{takenOutcome, takenAt}
+use Rattle.records.specs.declared.Record.{Record}
+use Rattle.records.specs.declared.Taken.{Taken}
+use Rattle.records.proofs.Answers.{taken-injective}
+use Rattle.records.proofs.Taking.{given-onward}
+use Rattle.arrays.specs.Arrays.{Entries, cells, calls, Array, arrayAt}
+use Rattle.key.specs.Accepted.{Accepted}
+use Rattle.key.specs.Before.{shapeIn}
+use Rattle.key.specs.Encoding.{openingRecord, entryRecords}
+use Rattle.key.specs.Index.{startsOf, Runs}
+use Rattle.key.specs.KeyArrays.{keyArrays}
+use Rattle.key.proofs.Acceptance.{acceptance}
+use Rattle.evaluate.specs.Inner.{Indexed, shapeAt}
+
+opening-length : (k k' : ℕ) (entries : Entries) → length (encoded (openingRecord k k' entries)) ≡ 3
+opening-length k k' (cells list) = refl
+opening-length k k' (calls list) = refl
+
+opening-shape : (k k' : ℕ) (entries : Entries) → shapeIn (openingRecord k k' entries) ≡ record { rows = k; columns = k' }
+opening-shape k k' (cells list) = refl
+opening-shape k k' (calls list) = refl
+
+itemIn : Taken → Record
+itemIn (Taken.Record item next) = item
+itemIn (Taken.Refused f) = Record.End
+
+nextIn : Taken → ℕ
+nextIn (Taken.Record item next) = next
+nextIn (Taken.Refused f) = 0
+
+pub record-same : (r s : Record) (m n : ℕ) → Taken.Record r m ≡ Taken.Record s n → (r ≡ s) × (m ≡ n)
+unfolding itemIn nextIn
+record-same r s m n e = (ap itemIn e, ap nextIn e)
+
+pub record-not-refused : (taken : Taken) (item : Record) (next : ℕ) (f : Refusal) →
+    taken ≡ Taken.Record item next → taken ≡ Taken.Refused f → ⊥
+record-not-refused taken item next f e g = given-not-refused (ap takenOutcome (sym e ∙ g))
+
+module _ (key starts : List ℕ) (indexed : Indexed key starts) where
+  pub accepts : Accepted key (indexed .counts)
+  accepts = acceptance key (indexed .counts) (indexed .accepted)
+
+  -- the offset behind an array's entries
+  abbrev behindArray : ℕ → ℕ
+  behindArray i = getD (startsOf key ++ ((length key - 1) ∷ [])) (i + 1) 0
+
+  module _ (i : ℕ) (l : i < length (keyArrays key)) where
+    abbrev own : Array
+    own = arrayAt (keyArrays key) i
+
+    opening : Record
+    opening = openingRecord (own .row-bits) (own .column-bits) (own .entries)
+
+    opened : takenAt key (getD starts i 0) ≡ takenOutcome (Taken.Record opening (getD starts i 0 + 3))
+    unfolding opening
+    opened =
+        subst
+        (λ (from : ℕ). takenAt key from ≡ takenOutcome (Taken.Record opening (from + 3)))
+        (sym (indexed .offsets i l))
+        (accepts .index .runs i l .0
+        ∙ ap (λ (n : ℕ). takenOutcome (Taken.Record opening (getD (startsOf key) i 0 + n))) (opening-length _ _ (own .entries)))
+
+    -- the entries run from three bytes behind the opening's offset on
+    pub entries-run : Runs key (getD starts i 0 + 3) (entryRecords (own .entries)) (behindArray i)
+    entries-run =
+        subst
+        (λ (from : ℕ). Runs key (from + 3) (entryRecords (own .entries)) (behindArray i))
+        (sym (indexed .offsets i l))
+        (subst
+        (λ (n : ℕ). Runs key (getD (startsOf key) i 0 + n) (entryRecords (own .entries)) (behindArray i))
+        (opening-length _ _ (own .entries))
+        (accepts .index .runs i l .1))
+
+    pub opening-inside : (getD starts i 0 + 3 ≤ length key) × (length key ≤ 65536)
+    opening-inside = (given-onward key (getD starts i 0) _ opened .1, accepts .at-most-65536)
+
+    module _ (taken : Taken) (answer : takenOutcome taken ≡ takenAt key (getD starts i 0)) where
+      taken-opening : taken ≡ Taken.Record opening (getD starts i 0 + 3)
+      taken-opening = taken-injective taken (Taken.Record opening (getD starts i 0 + 3)) (answer ∙ opened)
+
+      pub shape-taken : (item : Record) (next : ℕ) → taken ≡ Taken.Record item next → shapeIn item ≡ shapeAt (keyArrays key) i
+      unfolding opening itemIn
+      shape-taken item next e =
+          ap (λ (t : Taken). shapeIn (itemIn t)) (sym e ∙ taken-opening) ∙ opening-shape _ _ (own .entries)
+
+      pub opening-not-refused : (f : Refusal) → taken ≡ Taken.Refused f → ⊥
+      opening-not-refused f = record-not-refused taken opening (getD starts i 0 + 3) f taken-opening
+
+  pub key-some : 1 ≤ length key
+  key-some = let l = given-onward key (length key - 1) _ (accepts .index .end) .0 in omega (arith, l)
+
+  module _ (i : ℕ) where
+    pub behind-next : i + 1 < length (keyArrays key) → getD starts (i + 1) 0 ≡ behindArray i
+    behind-next l =
+        indexed .offsets (i + 1) l
+        ∙ sym (List·getD-append (startsOf key) ((length key - 1) ∷ []) 0 (i + 1) (omega (arith, l, accepts .index .one-each)))
+
+    pub behind-last : i + 1 ≡ length (keyArrays key) → length key - 1 ≡ behindArray i
+    behind-last e = sym (getD-at (startsOf key) (length key - 1) [] 0 (i + 1) (accepts .index .one-each ∙ sym e))

@@ -1,0 +1,65 @@
+-- A turn of the loop that adds an array's entries up, by what is taken at its offset.
+use Prim.Native.Nat.{ℕ, _+_, _<_}
+use mathlib.Core.List.{List}
+use mathlib.Core.Path.{_≡_, sym, ap, subst, _∙_}
+use native.Mathlib.Omega.{arith}
+use lib.ListN.{length}
+use Rattle.refusal.specs.declared.Refusal.{Refusal}
+use Rattle.records.specs.Kinds.{encoded}
+use Rattle.records.specs.Take.{takenOutcome, takenAt}
+use Rattle.records.specs.declared.Record.{Record}
+use Rattle.records.specs.declared.Taken.{Taken}
+use Rattle.records.proofs.Answers.{taken-injective}
+use Rattle.records.proofs.Taking.{given-onward}
+use Rattle.arrays.specs.Arrays.{Values, Array, arrayAt}
+use Rattle.key.specs.KeyArrays.{keyArrays}
+use Rattle.key.proofs.Acceptance.{acceptance}
+use Rattle.evaluate.specs.Inner.{Coordinates, AtPoint, entryAdded, EntryFits}
+use Rattle.evaluate.proofs.Adding.{Adding, Next, adding-next}
+use Rattle.evaluate.proofs.Indexing.{record-not-refused, record-same}
+
+-- an array has no more bits than the head, so that there are coordinates for it
+module _ (key rows columns : List ℕ) (point : AtPoint key rows columns) (i : ℕ) (l : i < length (keyArrays key)) where
+  pub rows-enough : Coordinates (arrayAt (keyArrays key) i .row-bits) rows
+  rows-enough =
+      let well = acceptance key (point .counts) (point .accepted) .well-formed .arrays-fit i l in
+      record { enough = omega (arith, well .rows-at-most, point .rows-given .enough); below = point .rows-given .below }
+
+  pub columns-enough : Coordinates (arrayAt (keyArrays key) i .column-bits) columns
+  columns-enough =
+      let well = acceptance key (point .counts) (point .accepted) .well-formed .arrays-fit i l in
+      record { enough = omega (arith, well .columns-at-most, point .columns-given .enough); below = point .columns-given .below }
+
+module _ (key rows columns sheet : List ℕ) (i to : ℕ) (sum : Values) (at : ℕ) (l : at < to)
+    (adding : Adding key rows columns sheet i to sum at) (taken : Taken) (answer : takenOutcome taken ≡ takenAt key at) where
+  abbrev own : Array
+  own = arrayAt (keyArrays key) i
+
+  following : Next key rows columns sheet i to sum at
+  following = adding-next key rows columns sheet i to sum at l adding
+
+  found : taken ≡ Taken.Record (following .item) (at + length (encoded (following .item)))
+  found = taken-injective taken (Taken.Record (following .item) (at + length (encoded (following .item)))) (answer ∙ following .taken)
+
+  pub never-refused : (f : Refusal) → taken ≡ Taken.Refused f → ⊥
+  never-refused f e = record-not-refused taken (following .item) (at + length (encoded (following .item))) f found e
+
+  module _ (item : Record) (next : ℕ) (e : taken ≡ Taken.Record item next) where
+    same : (following .item ≡ item) × (at + length (encoded (following .item)) ≡ next)
+    same = record-same (following .item) item (at + length (encoded (following .item))) next (sym found ∙ e)
+
+    pub entry-fits : EntryFits (keyArrays key) i (own .row-bits) (own .column-bits) item
+    entry-fits = subst (EntryFits (keyArrays key) i (own .row-bits) (own .column-bits)) (same .0) (following .fits)
+
+    pub offset-onward : at < next
+    offset-onward = omega (arith, given-onward key at _ (following .taken) .0, same .1)
+
+    pub entry-added : (more : Values) →
+        more ≡ entryAdded (keyArrays key) rows columns sheet (own .row-bits) (own .column-bits) sum item →
+        Adding key rows columns sheet i to more next
+    entry-added more m =
+        subst (λ (n : ℕ). Adding key rows columns sheet i to more n) (same .1)
+        (subst (λ (x : Values). Adding key rows columns sheet i to x (at + length (encoded (following .item))))
+        (ap (entryAdded (keyArrays key) rows columns sheet (own .row-bits) (own .column-bits) sum)
+        (same .0) ∙ sym m)
+        (following .onward))

@@ -1,0 +1,109 @@
+-- `evaluate::evaluate` meets its contract: the judgements in their order, then the pass.
+use Prim.Native.Nat.{_*_, _≤_}
+use mathlib.Core.Path.{_≡_}
+use denote.Ref.{now}
+use borrow.Author.Needs.{needs}
+use lib.ListN.{length}
+use Rattle.refusal.specs.Outcome.{Outcome, given}
+use Rattle.key.specs.Check.{checkedKey}
+use Rattle.key.specs.declared.Counts.{Counts}
+use Rattle.evaluate.specs.Inner.{Coordinates}
+use Rattle.evaluate.specs.Judged.{pointJudged}
+use Rattle.evaluate.proofs.Admission.{point-gives}
+use Rattle.evaluate.proofs.Concluded.{Judged, Admitted, judged-call, admitted-call, arrays-counted, table-indexed, few-arrays, admitted-known, refused-promise, given-promise}
+use Rattle.evaluate.proofs.evaluate.Statement.{statement}
+use Rattle.evaluate.proofs.evaluate.Tie as tie
+
+-- the start, from behind the judgement of the point, and what that judgement is
+abbrev start : tie.After-point → tie.Start
+start c = c .before .before .before .before .before .before .before .before
+
+abbrev judge : tie.After-point → Counts → Outcome Counts
+judge c = pointJudged (now (start c .args .rows)) (now (start c .args .columns))
+
+abbrev Holds : tie.After-point → Counts → Type 0
+Holds c counts =
+    Coordinates (counts .rows) (now (start c .args .rows)) × Coordinates (counts .columns) (now (start c .args .columns))
+
+-- behind that judgement, and behind that of the sheet
+judged-at : (c : tie.After-point) → Judged (now (start c .args .key)) (judge c) (Holds c) (c .point .result)
+judged-at c =
+    judged-call _ _ _ (c .before .before .index .result) (c .point .result)
+    (point-gives (now (start c .args .rows)) (now (start c .args .columns)))
+    (c .before .before .index .ensures .0) (c .point .ensures)
+
+admitted-at : (c : tie.After-sheet) →
+    Admitted (now (start (c .before) .args .key)) (judge (c .before)) (Holds (c .before)) (now (start (c .before) .args .sheet))
+    (c .sheet .result)
+admitted-at c = admitted-call _ _ _ (c .before .point .result) (c .sheet .result) _ (judged-at (c .before)) (c .sheet .ensures)
+
+-- where the call is admitted
+known-at : (c : tie.After-judged2) →
+    let counts = c .judged2 .given .0 .0 in
+    let p = c .before .before .before in
+    (checkedKey (now (start p .args .key)) ≡ given counts) × Holds p counts ×
+    (3 * counts .arrays ≤ length (now (start p .args .sheet)))
+known-at c = admitted-known _ _ _ _ _ (admitted-at (c .before .before)) _ (c .judged2 .given .1)
+
+slice-aggregate-index : tie.Need-slice-aggregate-index
+slice-aggregate-index c = search needs
+
+index-requires : tie.Need-index-requires
+index-requires c κs = search needs
+
+point-requires : tie.Need-point-requires
+point-requires c κs = search needs
+
+sheet-requires : tie.Need-sheet-requires
+sheet-requires c κs = few-arrays _ _ _ (c .point .result) (judged-at c)
+
+enum-known-judged : tie.Need-enum-known-judged
+enum-known-judged c = search needs
+
+enum-known-judged-2 : tie.Need-enum-known-judged-2
+enum-known-judged-2 c = search needs
+
+slice-aggregate-run : tie.Need-slice-aggregate-run
+slice-aggregate-run c = search needs
+
+run-requires : tie.Need-run-requires
+run-requires c κs =
+    let judged = c .before .before .before in
+    let known = known-at judged in (
+      table-indexed _ _ (known .0) _ _ (judged .before .before .before .before .before .index .ensures .1),
+      (
+        arrays-counted _ _ (known .0),
+        (
+          record { counts = judged .judged2 .given .0 .0; accepted = known .0; rows-given = known .1 .0; columns-given = known .1 .1 },
+          known .2,
+        ),
+      ),
+    )
+
+returns : tie.Need-returns
+returns c = refused-promise _ _ _ _ _ (admitted-at (c .before .before .before)) _ _ _ (c .before .judged .given .1)
+
+same-length : tie.Need-same-length
+same-length c = search needs
+
+returns-2 : tie.Need-returns-2
+returns-2 c =
+    let judged = c .before .before .before .before .before .before in
+    let ran = c .before .before .run .ensures in
+    given-promise _ _ _ _ _ (admitted-at (judged .before .before)) _ _ _ (judged .judged2 .given .1) _ _ (ran .0) (ran .1)
+
+pub evaluate-spec : {M : Type 1} → statement M
+evaluate-spec =
+    tie.close
+    (tie.spec
+    slice-aggregate-index
+    index-requires
+    point-requires
+    sheet-requires
+    enum-known-judged
+    enum-known-judged-2
+    slice-aggregate-run
+    run-requires
+    returns
+    same-length
+    returns-2)

@@ -1,0 +1,21 @@
+-- `evaluate::judge::sheet_of` meets its contract: the places are counted.
+use mathlib.Core.Path.{sym, _∙_}
+use borrow.Author.Needs.{needs}
+use Rattle.evaluate.proofs.Judgements.{sheet-short, sheet-enough}
+use Rattle.evaluate.proofs.judge.sheet_of.Statement.{statement}
+use Rattle.evaluate.proofs.judge.sheet_of.Tie as tie
+
+mul-needed : tie.Need-mul-needed
+mul-needed c = search needs
+
+refused-requires : tie.Need-refused-requires
+refused-requires c κs = search needs
+
+returns : tie.Need-returns
+returns c = c .refused .ensures ∙ sym (sheet-short _ _ _ (c .before .if1 .taken))
+
+returns-2 : tie.Need-returns-2
+returns-2 c = sym (sheet-enough _ _ _ (c .if1 .left))
+
+pub sheet-of-spec : {M : Type 1} → statement M
+sheet-of-spec = tie.close (tie.spec mul-needed refused-requires returns returns-2)

@@ -1,0 +1,38 @@
+-- What a call is held to behind check's own rules (01, 'Who can cause a refusal' and 'Order'): 21, 22 and 23 for a point, 24
+-- for a place, then 31 for the sheet.
+use Prim.Native.Nat.{ℕ, suc, _*_}
+use mathlib.Core.Bool.{cond, not}
+use mathlib.Core.List.{List, [], _∷_, _++_}
+use lib.Dec.{eqb, leb, ltb}
+use lib.ListN.{length}
+use Rattle.refusal.specs.Outcome.{Outcome, given, refuse}
+use Rattle.refusal.specs.declared.Reason.{Reason}
+use Rattle.field.specs.Fp.{p}
+use Rattle.key.specs.Rules.{outside}
+use Rattle.key.specs.declared.Counts.{Counts}
+
+-- the index of the first number that is p or more; how many there are where none is
+unfoldable pub firstOver : List ℕ → ℕ
+firstOver [] = 0
+firstOver (r ∷ numbers) = cond (leb p r) 0 (suc (firstOver numbers))
+
+-- a point: as many row coordinates as n, as many column coordinates as n', each below p, the rows first
+unfoldable pub pointJudged : List ℕ → List ℕ → Counts → Outcome Counts
+pointJudged rows columns counts =
+    cond (not (eqb (length rows) (counts .rows))) (refuse Reason.RowCountWrong (length rows))
+    (cond (not (eqb (length columns) (counts .columns))) (refuse Reason.ColumnCountWrong (length columns))
+    (cond (ltb (firstOver (rows ++ columns)) (length (rows ++ columns)))
+    (refuse Reason.CoordinateTooGreat (firstOver (rows ++ columns)))
+    (given counts)))
+
+-- a place: its row and its column lie inside the last array, which has the head's shape
+unfoldable pub placeJudged : ℕ → ℕ → Counts → Outcome Counts
+placeJudged row column counts =
+    cond (outside (counts .rows) row) (refuse Reason.AddressOutside 0)
+    (cond (outside (counts .columns) column) (refuse Reason.AddressOutside 1)
+    (given counts))
+
+-- a sheet of so many places, where each array takes `width` of them
+unfoldable pub sheetJudged : ℕ → ℕ → Counts → Outcome Counts
+sheetJudged width places counts =
+    cond (ltb places (width * counts .arrays)) (refuse Reason.SheetTooShort (width * counts .arrays)) (given counts)

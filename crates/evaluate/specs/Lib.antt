@@ -1,0 +1,5 @@
+pub mod Sheet
+pub mod Judged
+pub mod Evaluate
+pub mod Cell
+pub mod Inner

@@ -1,0 +1,106 @@
+// What a call is held to behind check's own rules, in the order of 01.
+use field::Fp;
+use key::Checked;
+use key::Counts;
+use refusal::Reason;
+ghost use mathlib.Core.Path.{_≡_};
+ghost use Prim.Native.Nat.{_≤_};
+ghost use Rattle.refusal.specs.Outcome.{andThen};
+ghost use Rattle.key.specs.Check.{checkedOutcome};
+ghost use Rattle.evaluate.specs.Inner.{FewArrays};
+ghost use Rattle.evaluate.specs.Judged.{firstOver, pointJudged, placeJudged, sheetJudged};
+ghost use Rattle.evaluate.specs.Sheet.{width};
+
+// The numbers of rows and columns that a point must have, and its coordinates.
+pub(crate) fn point(checked: Checked, rows: &[u32], columns: &[u32]) -> Checked
+    ensures { λ r. ⌜ checkedOutcome r ≡ andThen (checkedOutcome checked) (pointJudged (now (rows .entry)) (now (columns .entry))) ⌝ }
+{
+    match checked {
+        Checked::Refused(refusal) => Checked::Refused(refusal),
+        Checked::Accepted(counts) => point_of(counts, rows, columns),
+    }
+}
+
+// A point for a key of these counts.
+fn point_of(counts: Counts, rows: &[u32], columns: &[u32]) -> Checked
+    ensures { λ r. ⌜ checkedOutcome r ≡ pointJudged (now (rows .entry)) (now (columns .entry)) counts ⌝ }
+{
+    let row_count = rows.len();
+    let column_count = columns.len();
+    if row_count != counts.rows as usize {
+        return key::refused(Reason::RowCountWrong, row_count);
+    }
+    if column_count != counts.columns as usize {
+        return key::refused(Reason::ColumnCountWrong, column_count);
+    }
+    let row = first_over(rows);
+    if row < row_count {
+        return key::refused(Reason::CoordinateTooGreat, row);
+    }
+    let column = first_over(columns);
+    if column < column_count {
+        return key::refused(Reason::CoordinateTooGreat, row_count + column);
+    }
+    Checked::Accepted(counts)
+}
+
+// The row and the column of a place in the last array.
+pub(crate) fn place(checked: Checked, row: u32, column: u32) -> Checked
+    ensures { λ r. ⌜ checkedOutcome r ≡ andThen (checkedOutcome checked) (placeJudged row column) ⌝ }
+{
+    match checked {
+        Checked::Refused(refusal) => Checked::Refused(refusal),
+        Checked::Accepted(counts) => place_of(counts, row, column),
+    }
+}
+
+// A place for a key of these counts.
+fn place_of(counts: Counts, row: u32, column: u32) -> Checked
+    ensures { λ r. ⌜ checkedOutcome r ≡ placeJudged row column counts ⌝ }
+{
+    if key::outside(counts.rows, row) {
+        return key::refused(Reason::AddressOutside, 0);
+    }
+    if key::outside(counts.columns, column) {
+        return key::refused(Reason::AddressOutside, 1);
+    }
+    Checked::Accepted(counts)
+}
+
+// The number of places that a sheet must have. Inner: the key has no more arrays than a key may have.
+pub(crate) fn sheet(checked: Checked, places: usize) -> Checked
+    requires { ⌜ FewArrays checked ⌝ }
+    ensures { λ r. ⌜ checkedOutcome r ≡ andThen (checkedOutcome checked) (sheetJudged width places) ⌝ }
+{
+    match checked {
+        Checked::Refused(refusal) => Checked::Refused(refusal),
+        Checked::Accepted(counts) => sheet_of(counts, places),
+    }
+}
+
+// A sheet of so many places for a key of these counts. Inner: likewise.
+fn sheet_of(counts: Counts, places: usize) -> Checked
+    requires { ⌜ counts .arrays ≤ 1024 ⌝ }
+    ensures { λ r. ⌜ checkedOutcome r ≡ sheetJudged width places counts ⌝ }
+{
+    let needed = 3 * counts.arrays;
+    if places < needed {
+        return key::refused(Reason::SheetTooShort, needed);
+    }
+    Checked::Accepted(counts)
+}
+
+// The index of the first number that is p or more, or how many there are.
+fn first_over(numbers: &[u32]) -> usize
+    ensures { λ r. ⌜ r ≡ firstOver (now (numbers .entry)) ⌝ }
+{
+    let count = numbers.len();
+    let mut i = 0;
+    while i < count {
+        if Fp::P <= numbers[i] {
+            return i;
+        }
+        i += 1;
+    }
+    i
+}

@@ -1,0 +1,69 @@
+// An accepted key evaluated at a point (01, 'Dense form and evaluation'), and single cells of its last array.
+mod array;
+mod entry;
+mod judge;
+mod pass;
+mod point;
+mod sheet;
+
+use field::Fp;
+use key::Checked;
+use refusal::Refusal;
+ghost use mathlib.Core.Path.{_≡_};
+ghost use Rattle.evaluate.specs.Cell.{celled};
+ghost use Rattle.evaluate.specs.Evaluate.{evaluatedOutcome, evaluated};
+
+// The values of A, B and C.
+pub struct Values {
+    pub a: Fp,
+    pub b: Fp,
+    pub c: Fp,
+}
+
+// What evaluate and cell answer.
+pub enum Evaluated {
+    // The last array's values.
+    Values(Values),
+    // The key, the point or place, or the sheet is at fault, and nothing is written.
+    Refused(Refusal),
+}
+
+// The last array's A, B and C at a point: the multilinear extensions of its dense matrices. The sheet then holds every array's
+// three numbers, those of array i from place 3i on; places behind them stay, and a refused call leaves the whole sheet.
+pub fn evaluate(key: &[u8], rows: &[u32], columns: &[u32], sheet: &mut [u32]) -> Evaluated
+    ensures answer { λ r. ⌜ evaluatedOutcome r ≡ evaluated (now (key .entry)) (now (rows .entry)) (now (columns .entry)) (now (sheet .entry)) .answer ⌝ }
+    ensures sheet { λ _. ⌜ now (sheet .exit) ≡ evaluated (now (key .entry)) (now (rows .entry)) (now (columns .entry)) (now (sheet .entry)) .sheet ⌝ }
+{
+    let mut starts = [0u32; 1024];
+    let checked = key::index(key, &mut starts);
+    let pointed = judge::point(checked, rows, columns);
+    let judged = judge::sheet(pointed, sheet.len());
+    match judged {
+        Checked::Refused(refusal) => Evaluated::Refused(refusal),
+        Checked::Accepted(counts) => {
+            Evaluated::Values(pass::run(key, &starts, counts.arrays, rows, columns, sheet))
+        }
+    }
+}
+
+// The last array's dense A, B and C at a row and a column. The sheet is then as after evaluate at the point whose coordinates
+// are the bits of the row and of the column, and a refused call leaves it.
+pub fn cell(key: &[u8], row: u32, column: u32, sheet: &mut [u32]) -> Evaluated
+    ensures answer { λ r. ⌜ evaluatedOutcome r ≡ celled (now (key .entry)) row column (now (sheet .entry)) .answer ⌝ }
+    ensures sheet { λ _. ⌜ now (sheet .exit) ≡ celled (now (key .entry)) row column (now (sheet .entry)) .sheet ⌝ }
+{
+    let mut starts = [0u32; 1024];
+    let checked = key::index(key, &mut starts);
+    let placed = judge::place(checked, row, column);
+    let judged = judge::sheet(placed, sheet.len());
+    match judged {
+        Checked::Refused(refusal) => Evaluated::Refused(refusal),
+        Checked::Accepted(counts) => {
+            let mut rows = [0u32; 30];
+            let mut columns = [0u32; 30];
+            point::bits(row, &mut rows);
+            point::bits(column, &mut columns);
+            Evaluated::Values(pass::run(key, &starts, counts.arrays, &rows, &columns, sheet))
+        }
+    }
+}
