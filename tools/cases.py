@@ -4,8 +4,9 @@
 usage: cases.py [--check | --help]
 
 Without --check it writes crates/cases/stdin and crates/cases/stdout; with it, it says whether they are up to date and
-exits 1 where they are not. Edges that 01 words are written here with the answer that 01 gives; every answer, of these
-and of the sweeps around them, is worked out by model.py from 01, and the two must agree.
+exits 1 where they are not. Edges that 01 words are written with the answer that 01 gives, those of evaluate and cell in
+evaluations.py and refusals.py; every answer, of these and of the sweeps around them, is worked out by model.py from 01,
+and the two must agree.
 """
 
 import itertools
@@ -13,29 +14,36 @@ import pathlib
 import struct
 import sys
 
+from draw import Draw, damaged, drawn_key, encoded
+from evaluations import evaluation_cases, numbered
 from model import (
-    KINDS,
     LAYOUT,
     P,
     SAMPLE,
     TOP,
+    Refusal,
     accepted,
     arithmetic,
     byte_words,
+    cell,
     check,
     encode,
+    evaluate,
     joined,
     key,
     key_words,
-    larger,
+    outcome,
     put,
+    read,
     refused,
     take,
+    valued,
     words,
 )
+from refusals import refusal_cases
 
 FOLDER = pathlib.Path(__file__).resolve().parent.parent / "crates" / "cases"
-OPERATIONS = {"sum": 1, "difference": 2, "product": 3, "take": 4, "put": 5, "check": 6}
+OPERATIONS = {"sum": 1, "difference": 2, "product": 3, "take": 4, "put": 5, "check": 6, "evaluate": 7, "cell": 8}
 
 # 01, 'An accepted key': beginnings of a key, and the records that may follow each.
 FOLLOWING = {
@@ -49,25 +57,6 @@ FOLLOWING = {
 }
 
 
-class Draw:
-    """Numbers for the sweeps, the same ones everywhere: powers of 48271 modulo 2^31 - 1."""
-
-    def __init__(self):
-        self.state = 1
-
-    def below(self, bound):
-        """A number below `bound`, made of as many draws as it takes."""
-        number, span = 0, 1
-        while span < bound:
-            self.state = self.state * 48271 % P
-            number, span = number * P + self.state, span * P
-        return number % bound
-
-    def bytes(self, count):
-        """So many bytes."""
-        return bytes(self.below(256) for _ in range(count))
-
-
 def agreed(wanted, answer):
     """The answer worked out by the model, which must be the one that is worded, where one is."""
     if wanted not in (None, answer):
@@ -75,22 +64,42 @@ def agreed(wanted, answer):
     return answer
 
 
+def lent(data):
+    """A sheet with two places more than the key's arrays need, where it is accepted."""
+    try:
+        arrays = len(read(data)[1])
+    except Refusal:
+        arrays = 1
+    return numbered(3 * arrays + 2)
+
+
+def settled(wanted, sheet):
+    """The outcome that is worded, a refusal or each array's A, B and C, or None where none is."""
+    if wanted is None:
+        return None
+    return outcome(wanted, sheet) if isinstance(wanted, str) else valued(wanted[-1], wanted, sheet)
+
+
+def listed(numbers):
+    """Numbers in words, as '1 5 times 0', or 'none'."""
+    runs = ((x, len(list(same))) for x, same in itertools.groupby(numbers))
+    items = ([f"{count} times {x}"] if count > 3 else [str(x)] * count for x, count in runs)
+    return " ".join(itertools.chain(*items)) or "none"
+
+
 class Cases:
-    """The cases so far: what the program reads of each, and the line that it must print."""
+    """The cases so far: the line that the program must print for each, with what it reads of the case."""
 
     def __init__(self):
-        self.inputs = []
-        self.lines = []
+        self.inputs = {}
 
-    def add(self, name, wanted, operation, x=0, y=0, kind=0, fields=(), zeros=0, data=b""):
+    def add(self, name, wanted, operation, x=0, y=0, kind=0, fields=(), zeros=0, data=b"", numbers=()):
         """One case, with the numbers of its header in the program's order; a case that is there already is left out."""
         text = f"{name} | wanted {wanted} | got ".encode()
-        numbers = list(fields) + [0] * (5 - len(fields))
-        header = struct.pack("<BHQQB5III", OPERATIONS[operation], len(text), x, y, kind, *numbers, zeros, len(data))
-        line = text + wanted.encode() + b"\n"
-        if line not in self.lines:
-            self.inputs.append(header + text + data)
-            self.lines.append(line)
+        five = [*fields, 0, 0, 0, 0, 0][:5]
+        header = struct.pack("<BHQQB5III", OPERATIONS[operation], len(text), x, y, kind, *five, zeros, len(data))
+        behind = struct.pack(f"<{len(numbers)}I", *numbers)
+        self.inputs.setdefault(text + wanted.encode() + b"\n", header + text + data + behind)
 
     def arithmetic(self, operation, a, b, wanted=None):
         """A call of the field; `wanted` where 01 words the answer."""
@@ -113,11 +122,35 @@ class Cases:
         self.add(text, wanted_text, "put", x=at, kind=kind, fields=fields, zeros=zeros, data=data)
 
     def check(self, text, wanted=None):
-        """A check of a key in words; its first bytes, as far as they are 0, are the case's zeros."""
+        """A check of a key in words."""
         data = key(text)
-        rest = data.lstrip(b"\0")
         answer = agreed(wanted, check(data))
-        self.add(f"check {text or 'nothing'}", answer, "check", zeros=len(data) - len(rest), data=rest)
+        self.add_keyed("check", text, data, "", answer)
+
+    def evaluate(self, text, rows, columns, wanted=None, sheet=None, unroll=True, name=None):
+        """An evaluation of a key in words. `wanted` is the refusal or each array's A, B and C, where they are known
+        without the model; a key that is too large to unroll needs them. A `name` stands for a key that is long in words.
+        """
+        data = key(text)
+        sheet = lent(data) if sheet is None else sheet
+        answer = agreed(settled(wanted, sheet), evaluate(data, rows, columns, sheet, None if unroll else wanted))
+        behind = f" at rows {listed(rows)} columns {listed(columns)} on sheet {listed(sheet)}"
+        fields = (len(rows), len(columns), len(sheet))
+        self.add_keyed("evaluate", name or text, data, behind, answer, fields, [*rows, *columns, *sheet])
+
+    def cell(self, text, row, column, wanted=None, sheet=None, unroll=True, name=None):
+        """A cell of a key in words; the rest is as for evaluate."""
+        data = key(text)
+        sheet = lent(data) if sheet is None else sheet
+        answer = agreed(settled(wanted, sheet), cell(data, row, column, sheet, None if unroll else wanted))
+        behind = f" at row {row} column {column} on sheet {listed(sheet)}"
+        self.add_keyed("cell", name or text, data, behind, answer, (row, column, len(sheet)), sheet)
+
+    def add_keyed(self, operation, text, data, behind, wanted, fields=(), numbers=()):
+        """One case of a key; its first bytes, as far as they are 0, are the case's zeros."""
+        rest = data.lstrip(b"\0")
+        name = f"{operation} {text or 'nothing'}{behind}"
+        self.add(name, wanted, operation, fields=fields, zeros=len(data) - len(rest), data=rest, numbers=numbers)
 
 
 def field_cases(cases, draw):
@@ -390,43 +423,6 @@ def check_cut(cases):
         cases.check(key_words(other[:at] + bytes([byte ^ 1]) + other[at + 1 :]))
 
 
-def drawn_below(draw, bound):
-    """A number below `bound`, half the time the greatest."""
-    return bound - 1 if draw.below(2) else draw.below(bound)
-
-
-def drawn_cell(draw, bits):
-    """A cell that an array of these bits may have."""
-    return "cell", tuple(drawn_below(draw, bound) for bound in (2 ** bits[0], 2 ** bits[1], P, P, P))
-
-
-def drawn_call(draw, bits, called, shape):
-    """A call, that an array of these bits may have, of an array of that shape."""
-    return "call", (called, *(drawn_below(draw, 2 ** (k - K)) for k, K in zip(bits, shape)))
-
-
-def drawn_array(draw, bits, shapes):
-    """The records of an array of these bits that may stand behind arrays of those shapes."""
-    if draw.below(2):
-        return [("sparse", bits), *(drawn_cell(draw, bits) for _ in range(draw.below(3)))]
-    earlier = [i for i, shape in enumerate(shapes) if not larger(shape, bits)]
-    chosen = [earlier[draw.below(len(earlier))] for _ in range(draw.below(4)) if earlier]
-    return [("recursive", bits), *(drawn_call(draw, bits, called, shapes[called]) for called in chosen)]
-
-
-def drawn_key(draw):
-    """The records of an accepted key of few arrays."""
-    head = (draw.below(4), draw.below(4))
-    shapes = [tuple(draw.below(n + 1) for n in head) for _ in range(draw.below(4))] + [head]
-    arrays = [drawn_array(draw, bits, shapes[:i]) for i, bits in enumerate(shapes)]
-    return [("head", head), *itertools.chain(*arrays), ("end", ())]
-
-
-def encoded(records):
-    """The bytes of a key's records."""
-    return b"".join(encode(KINDS[name], fields) for name, fields in records)
-
-
 def counted(records):
     """What an accepted key is answered with, by its records."""
     names = [name for name, _ in records]
@@ -434,33 +430,13 @@ def counted(records):
     return accepted(arrays, names.count("cell"), names.count("call"), *records[0][1])
 
 
-def raised(draw, records):
-    """The records, with one field greater by one."""
-    i = draw.below(len(records) - 1)
-    name, fields = records[i]
-    j = draw.below(len(fields))
-    return [*records[:i], (name, (*fields[:j], fields[j] + 1, *fields[j + 1 :])), *records[i + 1 :]]
-
-
-def moved(draw, records):
-    """The records, one of them at another place."""
-    others = list(records)
-    record = others.pop(draw.below(len(records)))
-    others.insert(draw.below(len(records)), record)
-    return others
-
-
 def check_sweep(cases, draw):
     """Drawn keys, whole and with a field raised, a record moved, a byte changed or a byte removed."""
     for _ in range(50):
         records = drawn_key(draw)
-        data = encoded(records)
-        cases.check(key_words(data), counted(records))
-        cases.check(key_words(encoded(raised(draw, records))))
-        cases.check(key_words(encoded(moved(draw, records))))
-        at = draw.below(len(data))
-        cases.check(key_words(data[:at] + bytes([draw.below(8) or draw.below(256)]) + data[at + 1 :]))
-        cases.check(key_words(data[:at] + data[at + 1 :]))
+        cases.check(key_words(encoded(records)), counted(records))
+        for data in damaged(draw, records):
+            cases.check(key_words(data))
 
 
 def check_cases(cases, draw):
@@ -493,9 +469,11 @@ def main(arguments):
     take_cases(cases, draw)
     put_cases(cases, draw)
     check_cases(cases, draw)
+    evaluation_cases(cases, draw)
+    refusal_cases(cases, draw)
     files = {
-        FOLDER / "stdin": struct.pack("<I", len(cases.inputs)) + b"".join(cases.inputs),
-        FOLDER / "stdout": b"".join(cases.lines),
+        FOLDER / "stdin": struct.pack("<I", len(cases.inputs)) + b"".join(cases.inputs.values()),
+        FOLDER / "stdout": b"".join(cases.inputs),
     }
     for path, content in files.items():
         if not arguments:

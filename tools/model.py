@@ -1,6 +1,10 @@
 """What the calls answer, worked out from 01-scope.md alone: the layout, the rules and the refusals, and nothing of the
-Rattle code. Answers are lines as the test program prints them.
+Rattle code. Answers are lines as the test program prints them. Evaluations are worked out on the dense form, which is
+unrolled place by place.
 """
+
+import collections
+import itertools
 
 P = 2**31 - 1
 TOP = 2**32 - 1
@@ -21,6 +25,10 @@ SAMPLE = bytes.fromhex(
     "010101 020001 04 00000000 01000000 05000000 07000000 00000000 030101"
     "05 0000 00000000 00000000 05 0000 00000000 00000000 06"
 )
+
+
+# An array of a key: its opening's name, its bits and the fields of its cells or calls.
+Array = collections.namedtuple("Array", ("name", "bits", "entries"))
 
 
 class Refusal(Exception):
@@ -111,11 +119,11 @@ def misplaced(name, head, arrays):
         return head is None
     if name == "end":
         return not arrays
-    return not arrays or arrays[-1][0] != {"cell": "sparse", "call": "recursive"}[name]
+    return not arrays or arrays[-1].name != {"cell": "sparse", "call": "recursive"}[name]
 
 
 def fault(name, fields, head, arrays):
-    """The number of the first rule that a record breaks, or None; an array is its opening's name and its bits."""
+    """The number of the first rule that a record breaks, or None, behind this head and these arrays."""
     if misplaced(name, head, arrays):
         return 4
     opening = name in ("sparse", "recursive")
@@ -123,13 +131,13 @@ def fault(name, fields, head, arrays):
         return 6
     if (name == "head" and larger(fields, (30, 30))) or (opening and larger(fields, head)):
         return 5
-    if name == "cell" and outside(fields[:2], arrays[-1][1]):
+    if name == "cell" and outside(fields[:2], arrays[-1].bits):
         return 7
     if name == "cell" and max(fields[2:]) >= P:
         return 8
     if name == "call":
-        return call_fault(fields[0], fields[1:], [bits for _, bits in arrays])
-    if name == "end" and arrays[-1][1] != head:
+        return call_fault(fields[0], fields[1:], [array.bits for array in arrays])
+    if name == "end" and arrays[-1].bits != head:
         return 12
     return None
 
@@ -146,11 +154,11 @@ def call_fault(called, position, shapes):
     return None
 
 
-def counts(data):
-    """The answer to an accepted key, which is read record by record."""
+def read(data):
+    """The head's bits and the arrays of an accepted key, which is read record by record."""
     if len(data) > 65536:
         raise Refusal(1, 65536)
-    name, at, head, arrays, body = None, 0, None, [], []
+    name, at, head, arrays = None, 0, None, []
     while name != "end":
         name, fields, after = record_at(data, at)
         number = fault(name, fields, head, arrays)
@@ -159,21 +167,144 @@ def counts(data):
         if name == "head":
             head = fields
         elif name in ("sparse", "recursive"):
-            arrays.append((name, fields))
-        else:
-            body.append(name)
+            arrays.append(Array(name, fields, []))
+        elif name in ("cell", "call"):
+            arrays[-1].entries.append(fields)
         at = after
     if at < len(data):
         raise Refusal(13, at)
-    return accepted(len(arrays), body.count("cell"), body.count("call"), *head)
+    return head, arrays
+
+
+def entry_count(name, arrays):
+    """How many entries the arrays of one kind have."""
+    return sum(len(array.entries) for array in arrays if array.name == name)
 
 
 def check(data):
     """What checking a key answers."""
     try:
-        return counts(data)
+        head, arrays = read(data)
     except Refusal as refusal:
         return refused(*refusal.args)
+    return accepted(len(arrays), entry_count("sparse", arrays), entry_count("recursive", arrays), *head)
+
+
+def weight(number, coordinates):
+    """eq([number]; coordinates): bit i, lowest first, is paired with coordinate i."""
+    product = 1
+    for i, r in enumerate(coordinates):
+        product = product * (r if number >> i & 1 else 1 - r) % P
+    return product
+
+
+def contributions(array, arrays, forms):
+    """The places and values that an array's dense form is the sum of, by the forms of the arrays before it."""
+    for fields in array.entries:
+        if array.name == "sparse":
+            yield fields[:2], fields[2:]
+        else:
+            called, *position = fields
+            down, right = (a * 2**K for a, K in zip(position, arrays[called].bits, strict=True))
+            for (row, column), values in forms[called].items():
+                yield (row + down, column + right), values
+
+
+def dense(arrays):
+    """The dense form of each array: A, B and C by place, and zero at a place that has none."""
+    forms = []
+    for array in arrays:
+        form = {}
+        for place, values in contributions(array, arrays, forms):
+            form[place] = tuple((x + y) % P for x, y in zip(form.get(place, (0, 0, 0)), values))
+        forms.append(form)
+    return forms
+
+
+def extension(form, rows, columns):
+    """A, B and C of a dense form at a point: the sum over all places of what is there times the place's weights."""
+    total = (0, 0, 0)
+    for (row, column), values in form.items():
+        w = weight(row, rows) * weight(column, columns)
+        total = tuple((x + y * w) % P for x, y in zip(total, values))
+    return total
+
+
+def triples(arrays, forms, rows, columns):
+    """A, B and C of each array, at as many of the first coordinates as it has bits."""
+    return [extension(form, rows[: array.bits[0]], columns[: array.bits[1]]) for array, form in zip(arrays, forms)]
+
+
+def hold_point(head, rows, columns):
+    """Refuses what is no point of this head."""
+    for number, bits, coordinates in zip((21, 22), head, (rows, columns)):
+        if len(coordinates) != bits:
+            raise Refusal(number, len(coordinates))
+    for index, r in enumerate([*rows, *columns]):
+        if r >= P:
+            raise Refusal(23, index)
+
+
+def hold_place(head, row, column):
+    """Refuses a row or a column outside an array of the head's bits."""
+    for place, (number, bits) in enumerate(zip((row, column), head)):
+        if number >= 2**bits:
+            raise Refusal(24, place)
+
+
+def hold_sheet(arrays, sheet):
+    """Refuses a sheet that has no place for each array's A, B and C."""
+    if len(sheet) < 3 * len(arrays):
+        raise Refusal(31, 3 * len(arrays))
+
+
+def written(known, sheet):
+    """The sheet with each array's A, B and C at its beginning."""
+    return [*itertools.chain(*known), *sheet[3 * len(known) :]]
+
+
+def outcome(answer, sheet):
+    """An answer in words and the sheet's places, as the program prints them."""
+    return " ".join([answer, "sheet", *map(str, sheet)])
+
+
+def valued(values, known, sheet):
+    """The outcome where A, B and C are answered and known for each array."""
+    return outcome(" ".join(map(str, values)), written(known, sheet))
+
+
+def evaluate(data, rows, columns, sheet, known=None):
+    """What evaluating a key at a point answers, and the sheet afterwards; `known` is each array's A, B and C where the
+    key is too large to unroll.
+    """
+    try:
+        head, arrays = read(data)
+        hold_point(head, rows, columns)
+        hold_sheet(arrays, sheet)
+    except Refusal as refusal:
+        return outcome(refused(*refusal.args), sheet)
+    known = known or triples(arrays, dense(arrays), rows, columns)
+    return valued(known[-1], known, sheet)
+
+
+def bits_of(number, count):
+    """The bits of a number, lowest first."""
+    return [number >> i & 1 for i in range(count)]
+
+
+def cell(data, row, column, sheet, known=None):
+    """What the cell of a key at a row and a column answers, and the sheet afterwards; `known` as for evaluate."""
+    try:
+        head, arrays = read(data)
+        hold_place(head, row, column)
+        hold_sheet(arrays, sheet)
+    except Refusal as refusal:
+        return outcome(refused(*refusal.args), sheet)
+    if known:
+        return valued(known[-1], known, sheet)
+    forms = dense(arrays)
+    values = forms[-1].get((row, column), (0, 0, 0))
+    return valued(values, triples(arrays, forms, bits_of(row, head[0]), bits_of(column, head[1])), sheet)
 
 
 def key(text):
@@ -193,6 +324,11 @@ def part(item):
 def joined(*items):
     """The words of a key from those of its parts, of which any may be empty."""
     return ", ".join(item for item in items if item)
+
+
+def times(count, item):
+    """The words for so many of an item."""
+    return item if count == 1 else f"{count} times {item}"
 
 
 def byte_words(data):

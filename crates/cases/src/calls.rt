@@ -1,6 +1,7 @@
 // The public calls, made with a case's numbers and data.
 use crate::header::Header;
 use crate::print;
+use crate::values;
 use field::Answer;
 use records::Call;
 use records::Cell;
@@ -29,6 +30,8 @@ fn on(header: Header, buffer: &mut [u8]) {
         4 => print::taken(records::take(buffer, at)),
         5 => put(header, buffer),
         6 => print::checked(key::check(buffer)),
+        7 => values::at_point(header, buffer),
+        8 => values::at_place(header, buffer),
         _ => {}
     }
 }

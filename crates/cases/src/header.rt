@@ -10,8 +10,10 @@ pub struct Header {
     // The operands or the offset of the call.
     pub x: u64,
     pub y: u64,
-    // The kind of a record, and its fields.
+    // The kind of a record.
     pub kind: u8,
+    // The fields of a record; of evaluate, how many row coordinates, column coordinates and places of the sheet there are;
+    // of cell, the row, the column and how many places of the sheet there are.
     pub fields: [u32; 5],
     // How many bytes 0 stand in front of the data, and how long the data is.
     pub zeros: usize,
@@ -40,9 +42,11 @@ pub(crate) fn read(bytes: &[u8; 48]) -> Header
     }
 }
 
-// The number of cases.
-pub(crate) fn count(bytes: &[u8; 4]) -> u32 {
-    four_bytes(bytes, 0)
+// The number in the next four bytes of standard input.
+pub(crate) fn next() -> u32 {
+    let mut bytes = [0u8; 4];
+    io::read_full(0, &mut bytes);
+    four_bytes(&bytes, 0)
 }
 
 // The number in the four bytes at an offset, or 0 where there are no four.

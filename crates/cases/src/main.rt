@@ -2,23 +2,18 @@
 // was got. tools/cases.py writes the cases and the wanted lines from 01.
 //
 // Standard input is the number of cases in four bytes, and then each case: a header of numbers, the text to print in
-// front of what was got, and bytes of data. All numbers are little-endian.
+// front of what was got, bytes of data, and, where the call has them, the coordinates and what the sheet holds, four bytes
+// for each number. All numbers are little-endian.
 mod calls;
 mod header;
 mod print;
+mod values;
 
 fn main() {
-    let cases = count();
+    let cases = header::next();
     for _ in 0..cases {
         run();
     }
-}
-
-// The number of cases.
-fn count() -> u32 {
-    let mut bytes = [0u8; 4];
-    io::read_full(0, &mut bytes);
-    header::count(&bytes)
 }
 
 // One case.

@@ -1,4 +1,5 @@
 // What was got, as text.
+use evaluate::Evaluated;
 use field::Answer;
 use key::Checked;
 use key::Counts;
@@ -60,6 +61,28 @@ pub(crate) fn checked(got: Checked) {
     }
 }
 
+// The values of A, B and C, or a refusal.
+pub(crate) fn evaluated(got: Evaluated) {
+    match got {
+        Evaluated::Values(v) => {
+            field(v.a.value());
+            field(v.b.value());
+            number(v.c.value() as u64);
+        }
+        Evaluated::Refused(r) => refusal(r),
+    }
+}
+
+// The places of a sheet.
+pub(crate) fn sheet(places: &[u32]) {
+    io::write_all(1, b" sheet");
+    let mut i = 0;
+    while i < places.len() {
+        spaced(places[i]);
+        i += 1;
+    }
+}
+
 // The bytes of a buffer from an offset on, in hexadecimal.
 pub(crate) fn bytes(buffer: &[u8], from: usize) {
     let mut i = from;
@@ -67,6 +90,11 @@ pub(crate) fn bytes(buffer: &[u8], from: usize) {
         byte(buffer[i]);
         i += 1;
     }
+}
+
+fn spaced(x: u32) {
+    io::write_all(1, b" ");
+    number(x as u64);
 }
 
 fn byte(x: u8) {

@@ -10,8 +10,8 @@ Inv-loop cases counter₀ counter = Unit {0}
 abbrev μ-loop : tie.MeasureT-loop
 μ-loop cases counter₀ counter = cases - counter
 
-count-requires : tie.Need-count-requires Inv-loop μ-loop
-count-requires c κs = search needs
+next-requires : tie.Need-next-requires Inv-loop μ-loop
+next-requires c κs = search needs
 
 loop-holds : tie.Need-loop-holds Inv-loop μ-loop
 loop-holds c = search needs
@@ -37,7 +37,7 @@ main-spec =
     (tie.spec
     Inv-loop
     μ-loop
-    count-requires
+    next-requires
     loop-holds
     run-requires
     add-counter
