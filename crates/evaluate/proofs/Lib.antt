@@ -15,4 +15,5 @@ pub mod Concluded
 pub mod AtPlace
 pub mod Answers
 pub mod CellSheet
+pub mod PlaceByPlace
 pub mod Examples
