@@ -273,18 +273,29 @@ def valued(values, known, sheet):
     return outcome(" ".join(map(str, values)), written(known, sheet))
 
 
+def answered(data, hold, sheet, give):
+    """The outcome of a call on a key: its first refusal, `hold` being what judges the head behind the key's own rules, or
+    the answer and each array's A, B and C that `give` makes of the head and the arrays.
+    """
+    try:
+        head, arrays = read(data)
+        hold(head)
+        hold_sheet(arrays, sheet)
+    except Refusal as refusal:
+        return outcome(refused(*refusal.args), sheet)
+    return valued(*give(head, arrays), sheet)
+
+
 def evaluate(data, rows, columns, sheet, known=None):
     """What evaluating a key at a point answers, and the sheet afterwards; `known` is each array's A, B and C where the
     key is too large to unroll.
     """
-    try:
-        head, arrays = read(data)
-        hold_point(head, rows, columns)
-        hold_sheet(arrays, sheet)
-    except Refusal as refusal:
-        return outcome(refused(*refusal.args), sheet)
-    known = known or triples(arrays, dense(arrays), rows, columns)
-    return valued(known[-1], known, sheet)
+
+    def give(_, arrays):
+        each = known or triples(arrays, dense(arrays), rows, columns)
+        return each[-1], each
+
+    return answered(data, lambda head: hold_point(head, rows, columns), sheet, give)
 
 
 def bits_of(number, count):
@@ -294,17 +305,15 @@ def bits_of(number, count):
 
 def cell(data, row, column, sheet, known=None):
     """What the cell of a key at a row and a column answers, and the sheet afterwards; `known` as for evaluate."""
-    try:
-        head, arrays = read(data)
-        hold_place(head, row, column)
-        hold_sheet(arrays, sheet)
-    except Refusal as refusal:
-        return outcome(refused(*refusal.args), sheet)
-    if known:
-        return valued(known[-1], known, sheet)
-    forms = dense(arrays)
-    values = forms[-1].get((row, column), (0, 0, 0))
-    return valued(values, triples(arrays, forms, bits_of(row, head[0]), bits_of(column, head[1])), sheet)
+
+    def give(head, arrays):
+        if known:
+            return known[-1], known
+        forms = dense(arrays)
+        each = triples(arrays, forms, bits_of(row, head[0]), bits_of(column, head[1]))
+        return forms[-1].get((row, column), (0, 0, 0)), each
+
+    return answered(data, lambda head: hold_place(head, row, column), sheet, give)
 
 
 def key(text):

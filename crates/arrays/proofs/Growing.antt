@@ -41,9 +41,6 @@ module _ (P P' : Placing) where
       }
 
   module _ (n n' : ℕ) (arrays : List Array) (a : Array) where
-    more : List Array
-    more = arrays ++ (a ∷ [])
-
     front : (j : ℕ) → j < length arrays → arrayAt arrays j ≡ arrayAt (arrays ++ (a ∷ [])) j
     front j l = sym (List·getD-append arrays (a ∷ []) _ j l)
 

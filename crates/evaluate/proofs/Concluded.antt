@@ -4,7 +4,7 @@ use mathlib.Core.List.{List}
 use mathlib.Core.Path.{_≡_, sym, ap, _∙_}
 use native.Mathlib.Omega.{arith}
 use lib.ListN.{length, getD, drop, length-append}
-use Rattle.refusal.specs.Outcome.{Outcome, given, andThen}
+use Rattle.refusal.specs.Outcome.{Outcome, given, refused, andThen}
 use Rattle.refusal.specs.declared.Refusal.{Refusal}
 use Rattle.arrays.specs.Arrays.{Values}
 use Rattle.key.specs.Check.{checkedOutcome, checkedKey}
@@ -43,6 +43,25 @@ module _ (key : List ℕ) (counts : Counts) (accepted : checkedKey key ≡ given
             ap (λ (t : List ℕ). getD t i 0) e ∙ table-at key table counts accepted i (omega (arith, index .one-each));
       }
 
+-- what is answered and left on the sheet, by what the judgements come to
+module _ (o : Outcome Counts) (last : Counts → Values) (each : Counts → ℕ → Values) (sheet : List ℕ) where
+  pub concluded-refused : (number place : ℕ) → refused number place ≡ o →
+      (refused number place ≡ concluded o last each sheet .answer) × (sheet ≡ concluded o last each sheet .sheet)
+  unfolding concluded
+  concluded-refused number place e = (
+    ap (λ (o : Outcome Counts). concluded o last each sheet .answer) e,
+    ap (λ (o : Outcome Counts). concluded o last each sheet .sheet) e,
+  )
+
+  pub concluded-given : (counts : Counts) → given counts ≡ o →
+      (given (last counts) ≡ concluded o last each sheet .answer) ×
+      (laid 0 (λ i. wordsOf (each counts i)) (counts .arrays) sheet ≡ concluded o last each sheet .sheet)
+  unfolding concluded
+  concluded-given counts e = (
+    ap (λ (o : Outcome Counts). concluded o last each sheet .answer) e,
+    ap (λ (o : Outcome Counts). concluded o last each sheet .sheet) e,
+  )
+
 module _ (key : List ℕ) (judge : Counts → Outcome Counts) (Holds : Counts → Type 0) where
   -- a call that is judged by check and then by `judge`
   pub record Judged (judged : Checked) : Type 0 where
@@ -53,6 +72,17 @@ module _ (key : List ℕ) (judge : Counts → Outcome Counts) (Holds : Counts �
   pub record Admitted (sheet : List ℕ) (admitted : Checked) : Type 0 where
     pub gives : Gives judge Holds
     pub admits : checkedOutcome admitted ≡ andThen (andThen (checkedKey key) judge) (sheetJudged width (length sheet))
+
+  -- where nothing is refused, the key is accepted, the judgement holds, and there are places for all arrays
+  pub given-known : Gives judge Holds → (places : ℕ) (counts : Counts) →
+      andThen (andThen (checkedKey key) judge) (sheetJudged width places) ≡ given counts →
+      (checkedKey key ≡ given counts) × Holds counts × (3 * counts .arrays ≤ places)
+  given-known gives places counts e =
+      let (judged, room) =
+      then-gives (sheetJudged width places) (λ c. width * c .arrays ≤ places) (sheet-gives width places)
+      (andThen (checkedKey key) judge) counts e in
+      let (accepted, holds) = then-gives judge Holds gives (checkedKey key) counts judged in
+      (accepted, holds, room)
 
   pub judged-call : (checked judged : Checked) → Gives judge Holds → checkedOutcome checked ≡ checkedKey key →
       checkedOutcome judged ≡ andThen (checkedOutcome checked) judge → Judged judged
@@ -74,15 +104,9 @@ module _ (key : List ℕ) (judge : Counts → Outcome Counts) (Holds : Counts �
       omega (arith, acceptance key counts accepted .at-most-1024, arrays-counted key counts accepted)
 
   module _ (sheet : List ℕ) (admitted : Checked) (call : Admitted sheet admitted) where
-    -- the key is accepted, the judgement holds, and there are places for all arrays
     pub admitted-known : (counts : Counts) → admitted ≡ Checked.Accepted counts →
         (checkedKey key ≡ given counts) × Holds counts × (3 * counts .arrays ≤ length sheet)
-    admitted-known counts e =
-        let (judged, room) =
-        then-gives (sheetJudged width (length sheet)) (λ c. width * c .arrays ≤ length sheet) (sheet-gives width (length sheet))
-        (andThen (checkedKey key) judge) counts (sym (call .admits) ∙ ap checkedOutcome e) in
-        let (accepted, holds) = then-gives judge Holds (call .gives) (checkedKey key) counts judged in
-        (accepted, holds, room)
+    admitted-known counts e = given-known (call .gives) (length sheet) counts (sym (call .admits) ∙ ap checkedOutcome e)
 
     module _ (last : Counts → Values) (each : Counts → ℕ → Values) where
       abbrev promise : Evaluation
@@ -94,18 +118,10 @@ module _ (key : List ℕ) (judge : Counts → Outcome Counts) (Holds : Counts �
 
       pub refused-promise : (f : Refusal) → admitted ≡ Checked.Refused f →
           Promise (evaluatedOutcome (Evaluated.Refused f)) sheet
-      unfolding concluded
-      refused-promise f e =
-          let outcome = sym (ap checkedOutcome e) ∙ call .admits in (
-            ap (λ (o : Outcome Counts). concluded o last each sheet .answer) outcome,
-            ap (λ (o : Outcome Counts). concluded o last each sheet .sheet) outcome,
-          )
+      refused-promise f e = concluded-refused _ last each sheet _ _ (sym (ap checkedOutcome e) ∙ call .admits)
 
       pub given-promise : (counts : Counts) → admitted ≡ Checked.Accepted counts → (values : Values) (after : List ℕ) →
           values ≡ last counts → after ≡ laid 0 (λ i. wordsOf (each counts i)) (counts .arrays) sheet → Promise (given values) after
-      unfolding concluded
       given-promise counts e values after v w =
-          let outcome = sym (ap checkedOutcome e) ∙ call .admits in (
-            ap given v ∙ ap (λ (o : Outcome Counts). concluded o last each sheet .answer) outcome,
-            w ∙ ap (λ (o : Outcome Counts). concluded o last each sheet .sheet) outcome,
-          )
+          let done = concluded-given _ last each sheet counts (sym (ap checkedOutcome e) ∙ call .admits) in
+          (ap given v ∙ done .0, w ∙ done .1)

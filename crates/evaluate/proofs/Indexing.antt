@@ -6,12 +6,11 @@ use native.Mathlib.Omega.{arith}
 use lib.ListN.{length, getD, List·getD-append}
 use lib.Seq.{getD-at}
 use Rattle.refusal.specs.declared.Refusal.{Refusal}
-use Rattle.refusal.proofs.Outcomes.{given-not-refused}
 use Rattle.records.specs.Kinds.{encoded}
 use Rattle.records.specs.Take.{takenOutcome, takenAt}
 use Rattle.records.specs.declared.Record.{Record}
 use Rattle.records.specs.declared.Taken.{Taken}
-use Rattle.records.proofs.Answers.{taken-injective}
+use Rattle.records.proofs.Answers.{taken-injective, record-same, record-not-refused}
 use Rattle.records.proofs.Taking.{given-onward}
 use Rattle.arrays.specs.Arrays.{Entries, cells, calls, Array, arrayAt}
 use Rattle.key.specs.Accepted.{Accepted}
@@ -29,22 +28,6 @@ opening-length k k' (calls list) = refl
 opening-shape : (k k' : ℕ) (entries : Entries) → shapeIn (openingRecord k k' entries) ≡ record { rows = k; columns = k' }
 opening-shape k k' (cells list) = refl
 opening-shape k k' (calls list) = refl
-
-itemIn : Taken → Record
-itemIn (Taken.Record item next) = item
-itemIn (Taken.Refused f) = Record.End
-
-nextIn : Taken → ℕ
-nextIn (Taken.Record item next) = next
-nextIn (Taken.Refused f) = 0
-
-pub record-same : (r s : Record) (m n : ℕ) → Taken.Record r m ≡ Taken.Record s n → (r ≡ s) × (m ≡ n)
-unfolding itemIn nextIn
-record-same r s m n e = (ap itemIn e, ap nextIn e)
-
-pub record-not-refused : (taken : Taken) (item : Record) (next : ℕ) (f : Refusal) →
-    taken ≡ Taken.Record item next → taken ≡ Taken.Refused f → ⊥
-record-not-refused taken item next f e g = given-not-refused (ap takenOutcome (sym e ∙ g))
 
 module _ (key starts : List ℕ) (indexed : Indexed key starts) where
   pub accepts : Accepted key (indexed .counts)
@@ -89,9 +72,10 @@ module _ (key starts : List ℕ) (indexed : Indexed key starts) where
       taken-opening = taken-injective taken (Taken.Record opening (getD starts i 0 + 3)) (answer ∙ opened)
 
       pub shape-taken : (item : Record) (next : ℕ) → taken ≡ Taken.Record item next → shapeIn item ≡ shapeAt (keyArrays key) i
-      unfolding opening itemIn
+      unfolding opening
       shape-taken item next e =
-          ap (λ (t : Taken). shapeIn (itemIn t)) (sym e ∙ taken-opening) ∙ opening-shape _ _ (own .entries)
+          ap shapeIn (record-same item opening next (getD starts i 0 + 3) (sym e ∙ taken-opening) .0)
+          ∙ opening-shape _ _ (own .entries)
 
       pub opening-not-refused : (f : Refusal) → taken ≡ Taken.Refused f → ⊥
       opening-not-refused f = record-not-refused taken opening (getD starts i 0 + 3) f taken-opening

@@ -14,6 +14,6 @@ pub mod Admission
 pub mod Concluded
 pub mod AtPlace
 pub mod Answers
-pub mod CellSheet
 pub mod PlaceByPlace
+pub mod CellSheet
 pub mod Examples

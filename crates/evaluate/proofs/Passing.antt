@@ -16,7 +16,7 @@ use Rattle.arrays.proofs.Parts.{value-by, values-same}
 use Rattle.arrays.proofs.Passes.{value-now, values-prefix, array-value-same, value-valid}
 use Rattle.evaluate.specs.Inner.{ValuesBelow, sheetValues, Filled, nextValues, passedValues}
 use Rattle.evaluate.specs.Sheet.{wordsOf, wordsBelow, laid}
-use Rattle.evaluate.proofs.Sheets.{laid-at, laid-more, laid-length}
+use Rattle.evaluate.proofs.Sheets.{laid-first, laid-more, laid-length}
 
 module _ (arrays : List Array) (rows columns : List ℕ) where
   -- a part's values by the pass, of the arrays numbered below n
@@ -48,10 +48,8 @@ module _ (arrays : List Array) (rows columns : List ℕ) where
 
     word : (j k : ℕ) → j < i → k < 3 → getD sheet (3 * j + k) 0 ≡ getD (words j) k 0
     word j k l m =
-        let at : 3 * j + k ≡ 0 + (3 * j + k) = omega arith in
         ap (λ (s : List ℕ). getD s (3 * j + k) 0) (passing .holds)
-        ∙ ap (λ (n : ℕ). getD (laid 0 words i lent) n 0) at
-        ∙ laid-at 3 words (λ n. refl) 0 i lent (omega (arith, passing .most)) j k l m
+        ∙ laid-first 3 words (λ n. refl) i lent (omega (arith, passing .most)) j k l m
 
     pub on-sheet : (j : ℕ) → j < i → sheetValues sheet j ≡ passedValues arrays rows columns j
     on-sheet j l =

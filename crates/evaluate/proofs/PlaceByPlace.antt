@@ -9,11 +9,12 @@ use Rattle.refusal.specs.Outcome.{Outcome, given, andThen}
 use Rattle.key.specs.Check.{checkedKey}
 use Rattle.key.specs.KeyArrays.{keyArrays}
 use Rattle.key.specs.declared.Counts.{Counts}
-use Rattle.evaluate.specs.Evaluate.{lastOf, valuesAt, concluded, evaluated}
+use Rattle.evaluate.specs.Evaluate.{lastOf, valuesAt, evaluated}
 use Rattle.evaluate.specs.Judged.{pointJudged, sheetJudged}
 use Rattle.evaluate.specs.Sheet.{wordsOf, width, laid}
+use Rattle.evaluate.proofs.Concluded.{concluded-given}
 use Rattle.evaluate.proofs.Judgements.{sheet-enough}
-use Rattle.evaluate.proofs.Sheets.{laid-at, laid-behind}
+use Rattle.evaluate.proofs.Sheets.{laid-first, laid-behind}
 
 module _ (key rows columns sheet : List ℕ) (counts : Counts) (accepted : checkedKey key ≡ given counts)
     (point : pointJudged rows columns counts ≡ given counts) (room : 3 * counts .arrays ≤ length sheet) where
@@ -23,37 +24,35 @@ module _ (key rows columns sheet : List ℕ) (counts : Counts) (accepted : check
       ∙ ap (λ (o : Outcome Counts). andThen o (sheetJudged width (length sheet))) point
       ∙ sheet-enough width (length sheet) counts room
 
-  words : ℕ → List ℕ
+  abbrev words : ℕ → List ℕ
   words i = wordsOf (valuesAt (keyArrays key) rows columns i)
 
-  sheet-is : evaluated key rows columns sheet .sheet ≡ laid 0 words (counts .arrays) sheet
-  unfolding concluded words
-  sheet-is =
-      ap (λ (o : Outcome Counts). concluded o (λ c. valuesAt (keyArrays key) rows columns (lastOf (keyArrays key)))
-      (λ c. valuesAt (keyArrays key) rows columns) sheet .sheet) admitted
+  done : (given (valuesAt (keyArrays key) rows columns (lastOf (keyArrays key))) ≡ evaluated key rows columns sheet .answer) ×
+      (laid 0 (λ i. wordsOf (valuesAt (keyArrays key) rows columns i)) (counts .arrays) sheet ≡ evaluated key rows columns sheet .sheet)
+  done =
+      concluded-given _ (λ c. valuesAt (keyArrays key) rows columns (lastOf (keyArrays key)))
+      (λ c. valuesAt (keyArrays key) rows columns) sheet counts (sym admitted)
 
   -- the answer is the last array's extensions
   pub answer-given : evaluated key rows columns sheet .answer ≡ given (valuesAt (keyArrays key) rows columns (lastOf (keyArrays key)))
-  unfolding concluded
-  answer-given =
-      ap (λ (o : Outcome Counts). concluded o (λ c. valuesAt (keyArrays key) rows columns (lastOf (keyArrays key)))
-      (λ c. valuesAt (keyArrays key) rows columns) sheet .answer) admitted
+  answer-given = sym (done .0)
+
+  -- the sheet holds every array's
+  pub sheet-given : evaluated key rows columns sheet .sheet
+      ≡ laid 0 (λ i. wordsOf (valuesAt (keyArrays key) rows columns i)) (counts .arrays) sheet
+  sheet-given = sym (done .1)
 
   -- j is 0 for A, 1 for B and 2 for C
   pub place-given : (i j : ℕ) → i < counts .arrays → j < 3 →
       getD (evaluated key rows columns sheet .sheet) (3 * i + j) 0 ≡ getD (wordsOf (valuesAt (keyArrays key) rows columns i)) j 0
-  unfolding words
   place-given i j l m =
-      let at : 3 * i + j ≡ 0 + (3 * i + j) = omega arith in
-      ap (λ (s : List ℕ). getD s (3 * i + j) 0) sheet-is
-      ∙ ap (λ (n : ℕ). getD (laid 0 words (counts .arrays) sheet) n 0) at
-      ∙ laid-at 3 words (λ n. refl) 0 (counts .arrays) sheet (omega (arith, room)) i j l m
+      ap (λ (s : List ℕ). getD s (3 * i + j) 0) sheet-given
+      ∙ laid-first 3 words (λ n. refl) (counts .arrays) sheet room i j l m
 
   pub places-behind : drop (3 * counts .arrays) (evaluated key rows columns sheet .sheet) ≡ drop (3 * counts .arrays) sheet
-  unfolding words
   places-behind =
       let at : 3 * counts .arrays ≡ 0 + 3 * counts .arrays = omega arith in
-      ap (drop (3 * counts .arrays)) sheet-is
+      ap (drop (3 * counts .arrays)) sheet-given
       ∙ ap (λ (n : ℕ). drop n (laid 0 words (counts .arrays) sheet)) at
       ∙ laid-behind 3 words (λ n. refl) 0 (counts .arrays) sheet (omega (arith, room))
       ∙ ap (λ (n : ℕ). drop n sheet) (sym at)

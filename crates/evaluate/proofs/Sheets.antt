@@ -82,6 +82,13 @@ module _ (w : ℕ) (words : ℕ → List ℕ) (each : (i : ℕ) → length (word
       (omega (arith, words-length count, mul-le-mul-left w l, mul-suc w i))
       ∙ word-at count i j l m
 
+  -- and at w·i where the base is 0
+  pub laid-first : (count : ℕ) (sheet : List ℕ) → w * count ≤ length sheet → (i j : ℕ) → i < count → j < w →
+      getD (laid 0 words count sheet) (w * i + j) 0 ≡ getD (words i) j 0
+  laid-first count sheet room i j l m =
+      let at : w * i + j ≡ 0 + (w * i + j) = omega arith in
+      ap (λ (n : ℕ). getD (laid 0 words count sheet) n 0) at ∙ laid-at 0 count sheet (omega (arith, room)) i j l m
+
   -- every other place is as it was
   pub laid-before : (base count : ℕ) (sheet : List ℕ) (i : ℕ) → i < base → getD (laid base words count sheet) i 0 ≡ getD sheet i 0
   laid-before base count sheet i l = sets-before sheet base (wordsBelow words count) i l

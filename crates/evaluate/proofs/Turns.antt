@@ -1,5 +1,5 @@
 -- A turn of the loop that adds an array's entries up, by what is taken at its offset.
-use Prim.Native.Nat.{ℕ, _+_, _<_}
+use Prim.Native.Nat.{ℕ, _+_, _≤_, _<_}
 use mathlib.Core.List.{List}
 use mathlib.Core.Path.{_≡_, sym, ap, subst, _∙_}
 use native.Mathlib.Omega.{arith}
@@ -9,26 +9,30 @@ use Rattle.records.specs.Kinds.{encoded}
 use Rattle.records.specs.Take.{takenOutcome, takenAt}
 use Rattle.records.specs.declared.Record.{Record}
 use Rattle.records.specs.declared.Taken.{Taken}
-use Rattle.records.proofs.Answers.{taken-injective}
+use Rattle.records.proofs.Answers.{taken-injective, record-same, record-not-refused}
 use Rattle.records.proofs.Taking.{given-onward}
 use Rattle.arrays.specs.Arrays.{Values, Array, arrayAt}
+use Rattle.arrays.specs.Placing.{blocks}
+use Rattle.arrays.specs.WellFormed.{ArrayFits}
 use Rattle.key.specs.KeyArrays.{keyArrays}
 use Rattle.key.proofs.Acceptance.{acceptance}
 use Rattle.evaluate.specs.Inner.{Coordinates, AtPoint, entryAdded, EntryFits}
 use Rattle.evaluate.proofs.Adding.{Adding, Next, adding-next}
-use Rattle.evaluate.proofs.Indexing.{record-not-refused, record-same}
 
--- an array has no more bits than the head, so that there are coordinates for it
+-- coordinates for arrays of n bits are coordinates for one of fewer
+fewer : (n k : ℕ) (numbers : List ℕ) → k ≤ n → Coordinates n numbers → Coordinates k numbers
+fewer n k numbers l given-n = record { enough = omega (arith, given-n .enough); below = given-n .below }
+
+-- an array has no more bits than the head
 module _ (key rows columns : List ℕ) (point : AtPoint key rows columns) (i : ℕ) (l : i < length (keyArrays key)) where
+  fits : ArrayFits blocks blocks (keyArrays key) (point .counts .rows) (point .counts .columns) i (arrayAt (keyArrays key) i)
+  fits = acceptance key (point .counts) (point .accepted) .well-formed .arrays-fit i l
+
   pub rows-enough : Coordinates (arrayAt (keyArrays key) i .row-bits) rows
-  rows-enough =
-      let well = acceptance key (point .counts) (point .accepted) .well-formed .arrays-fit i l in
-      record { enough = omega (arith, well .rows-at-most, point .rows-given .enough); below = point .rows-given .below }
+  rows-enough = fewer (point .counts .rows) _ rows (fits .rows-at-most) (point .rows-given)
 
   pub columns-enough : Coordinates (arrayAt (keyArrays key) i .column-bits) columns
-  columns-enough =
-      let well = acceptance key (point .counts) (point .accepted) .well-formed .arrays-fit i l in
-      record { enough = omega (arith, well .columns-at-most, point .columns-given .enough); below = point .columns-given .below }
+  columns-enough = fewer (point .counts .columns) _ columns (fits .columns-at-most) (point .columns-given)
 
 module _ (key rows columns sheet : List ℕ) (i to : ℕ) (sum : Values) (at : ℕ) (l : at < to)
     (adding : Adding key rows columns sheet i to sum at) (taken : Taken) (answer : takenOutcome taken ≡ takenAt key at) where

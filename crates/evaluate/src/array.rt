@@ -24,6 +24,7 @@ pub(crate) fn shape(key: &[u8], starts: &[u32], i: usize) -> Shape
     let taken = records::take(key, starts[i] as usize);
     match taken {
         Taken::Record(item, _) => shape_in(item),
+        // Not reached: the opening of an array can be taken.
         Taken::Refused(_) => Shape {
             rows: 0,
             columns: 0,
@@ -78,6 +79,7 @@ pub(crate) fn values(
     while at < to {
         let taken = records::take(key, at);
         let Taken::Record(item, next) = taken else {
+            // Not reached: the entries of an array can be taken.
             return sum;
         };
         sum = entry::add(sum, item, key, starts, i, own, rows, columns, sheet);

@@ -2,6 +2,7 @@
 use Prim.Native.Nat.{ℕ}
 use mathlib.Core.List.{List}
 use mathlib.Core.Path.{_≡_, refl, sym, ap, ap₂, _∙_}
+use Rattle.refusal.specs.declared.Refusal.{Refusal}
 use Rattle.refusal.proofs.Outcomes.{refusal-injective, given-not-refused}
 use Rattle.records.specs.Kinds.{kindOf, fieldsOf, recordOf}
 use Rattle.records.specs.Put.{writtenOutcome}
@@ -34,6 +35,22 @@ taken-injective (Taken.Record r m) (Taken.Record s n) e =
 taken-injective (Taken.Record r m) (Taken.Refused g) e = absurd (given-not-refused e)
 taken-injective (Taken.Refused f) (Taken.Record s n) e = absurd (given-not-refused (sym e))
 taken-injective (Taken.Refused f) (Taken.Refused g) e = ap Taken.Refused (refusal-injective f g e)
+
+itemIn : Taken → Record
+itemIn (Taken.Record item next) = item
+itemIn (Taken.Refused f) = Record.End
+
+nextIn : Taken → ℕ
+nextIn (Taken.Record item next) = next
+nextIn (Taken.Refused f) = 0
+
+pub record-same : (r s : Record) (m n : ℕ) → Taken.Record r m ≡ Taken.Record s n → (r ≡ s) × (m ≡ n)
+unfolding itemIn nextIn
+record-same r s m n e = (ap itemIn e, ap nextIn e)
+
+pub record-not-refused : (taken : Taken) (item : Record) (next : ℕ) (f : Refusal) →
+    taken ≡ Taken.Record item next → taken ≡ Taken.Refused f → ⊥
+record-not-refused taken item next f e g = given-not-refused (ap takenOutcome (sym e ∙ g))
 
 pub written-injective : (r s : Written) → writtenOutcome r ≡ writtenOutcome s → r ≡ s
 written-injective (Written.Next m) (Written.Next n) e = ap Written.Next (cc)
