@@ -1,50 +1,17 @@
 -- Why `countPoints` counts points. A test that no point passes counts 0, one that a single point passes counts 1, and the
 -- count of two tests adds up: so a test counts the points that pass it, each once. What it says of other lists does not
 -- matter. All the points are q^m, and a test and its negation share them.
-use Prim.Native.Nat.{ℕ, zero, suc, _+_, _*_, _^_, _≤_, _<_, zero-le}
+use Prim.Native.Nat.{ℕ, zero, suc, _+_, _^_}
 use mathlib.Core.Bool.{Bool, true, false, cond, not, _&&_, _||_, and-not-self}
 use mathlib.Core.List.{List, [], _∷_}
-use mathlib.Core.Path.{_≡_, refl, sym, ap, ap₂, subst, _∙_}
-use native.Mathlib.Decide.{ℕ-discrete}
-use native.Mathlib.Nat.{le-refl, add-zero, pow-zero, pow-succ', mul-zero}
+use mathlib.Core.Path.{_≡_, refl, sym, ap, ap₂, _∙_}
+use native.Mathlib.Nat.{add-zero, pow-zero, pow-succ', mul-zero}
 use native.Mathlib.Omega.{arith}
 use lib.ListN.{length}
-use Rattle.algebra.specs.Arithmetic.{sumBelow, whole}
+use Rattle.algebra.specs.Arithmetic.{whole}
 use Rattle.algebra.specs.Points.{countPoints, Below}
 use Rattle.algebra.proofs.Sums.{sum-same}
-
--- ---- sums of whole numbers
-
-pub total-le : (n : ℕ) (f g : ℕ → ℕ) → ((x : ℕ) → x < n → f x ≤ g x) → sumBelow whole n f ≤ sumBelow whole n g
-unfolding sumBelow
-total-le zero f g h = zero-le
-total-le (suc n) f g h = omega (arith, total-le n f g (λ x l. h x (omega arith)), h n (le-refl (suc n)))
-
-pub total-add : (n : ℕ) (f g : ℕ → ℕ) → sumBelow whole n (λ x. f x + g x) ≡ sumBelow whole n f + sumBelow whole n g
-unfolding sumBelow
-total-add zero f g = refl
-total-add (suc n) f g = omega (arith, total-add n f g)
-
-pub total-const : (n c : ℕ) → sumBelow whole n (λ x. c) ≡ n * c
-unfolding sumBelow
-total-const zero c = omega arith
-total-const (suc n) c = omega (arith, total-const n c)
-
--- one term is all there is
-total-one : (n z c : ℕ) (f : ℕ → ℕ) → z < n → f z ≡ c → ((x : ℕ) → x < n → (x ≡ z → ⊥) → f x ≡ 0) →
-    sumBelow whole n f ≡ c
-unfolding sumBelow
-total-one zero z c f l e h = absurd (omega arith)
-total-one (suc n) z c f l e h = go (ℕ-discrete n z) (λ k. total-one n z c f k e (λ x j. h x (omega arith)))
-  where
-    none : n ≡ z → sumBelow whole n f ≡ 0
-    none s = sum-same whole n f (λ x. 0) (λ x j. h x (omega arith) (λ t. omega arith)) ∙ total-const n 0 ∙ mul-zero n
-
-    go : Dec (n ≡ z) → (z < n → sumBelow whole n f ≡ c) → sumBelow whole n f + f n ≡ c
-    go (yes s) ih = omega (arith, none s, ap f s ∙ e)
-    go (no d) ih = omega (arith, ih (omega arith), h n (omega arith) d)
-
--- ---- counts of points
+use Rattle.algebra.proofs.Totals.{total-add, total-const, total-one}
 
 -- only the lists of m coordinates below q count
 pub count-same : (q m : ℕ) (s t : List ℕ → Bool)
@@ -53,17 +20,6 @@ unfolding countPoints
 count-same q zero s t h = ap (λ (c : Bool). cond c 1 0) (h [] refl tt)
 count-same q (suc m) s t h =
     sum-same whole q _ _ (λ x l. count-same q m (λ xs. s (x ∷ xs)) (λ xs. t (x ∷ xs)) (λ xs e b. h (x ∷ xs) (ap suc e) (l, b)))
-
-pub count-mono : (q m : ℕ) (s t : List ℕ → Bool)
-    → ((xs : List ℕ) → length xs ≡ m → Below q xs → s xs ≡ true → t xs ≡ true) → countPoints q m s ≤ countPoints q m t
-unfolding countPoints
-count-mono q zero s t h = go (s []) (t []) (h [] refl tt)
-  where
-    go : (a b : Bool) → (a ≡ true → b ≡ true) → cond a 1 0 ≤ cond b 1 0
-    go false b h = zero-le
-    go true b h = subst (λ (c : Bool). 1 ≤ cond c 1 0) (sym (h refl)) (le-refl 1)
-count-mono q (suc m) s t h =
-    total-le q _ _ (λ x l. count-mono q m (λ xs. s (x ∷ xs)) (λ xs. t (x ∷ xs)) (λ xs e b. h (x ∷ xs) (ap suc e) (l, b)))
 
 -- what passes one of two tests, and what passes both, count together as the two tests do
 pub count-add : (q m : ℕ) (s t : List ℕ → Bool) →
@@ -104,7 +60,7 @@ count-split q m s =
     one true = refl
     one false = refl
 
-false-unless : (b : Bool) → (b ≡ true → ⊥) → b ≡ false
+pub false-unless : (b : Bool) → (b ≡ true → ⊥) → b ≡ false
 false-unless true h = absurd (h refl)
 false-unless false h = refl
 

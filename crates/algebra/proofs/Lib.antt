@@ -1,5 +1,8 @@
 pub mod Rings
 pub mod Fields
 pub mod Sums
+pub mod Totals
 pub mod Counts
-pub mod CornerCell
+pub mod Lines
+pub mod Points
+pub mod Three

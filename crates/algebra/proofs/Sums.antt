@@ -1,5 +1,6 @@
--- Sums over the numbers below n, by the laws of a ring: congruence, linearity, and a window outside which all is nought.
-use Prim.Native.Nat.{ℕ, zero, suc, _+_, _-_, _≤_, _<_}
+-- Sums over the numbers below n, by the laws of a ring: congruence, linearity, pairs of terms, two sums exchanged, and a
+-- window outside which all is nought.
+use Prim.Native.Nat.{ℕ, zero, suc, _+_, _-_, _*_, _≤_, _<_}
 use mathlib.Core.Path.{_≡_, refl, sym, ap, ap₂, _∙_}
 use native.Mathlib.Nat.{add-zero, add-suc}
 use native.Mathlib.Omega.{arith}
@@ -52,6 +53,24 @@ module _ (𝓐 : Arithmetic) (𝓡 : Ring 𝓐) where
   sum-append a (suc b) f =
       ap (λ (n : ℕ). sumBelow 𝓐 n f) (add-suc a b) ∙ ap (λ (s : Carrier). add s (f (a + b))) (sum-append a b f)
       ∙ add-assoc (sumBelow 𝓐 a f) (sumBelow 𝓐 b (λ z. f (a + z))) (f (a + b))
+
+  -- the sum over an even number of terms, by pairs
+  pub sum-pairs : (n : ℕ) (f : ℕ → Carrier) → sumBelow 𝓐 (2 * n) f ≡ sumBelow 𝓐 n (λ z. add (f (2 * z)) (f (suc (2 * z))))
+  unfolding sumBelow
+  sum-pairs zero f = refl
+  sum-pairs (suc n) f =
+      ap (λ (k : ℕ). sumBelow 𝓐 k f) (let e : 2 * suc n ≡ suc (suc (2 * n)) = omega arith in e)
+      ∙ add-assoc (sumBelow 𝓐 (2 * n) f) (f (2 * n)) (f (suc (2 * n)))
+      ∙ ap (λ (s : Carrier). add s (add (f (2 * n)) (f (suc (2 * n))))) (sum-pairs n f)
+
+  -- two sums exchanged
+  pub sum-swap : (n n' : ℕ) (f : ℕ → ℕ → Carrier) →
+      sumBelow 𝓐 n (λ x. sumBelow 𝓐 n' (f x)) ≡ sumBelow 𝓐 n' (λ y. sumBelow 𝓐 n (λ x. f x y))
+  unfolding sumBelow
+  sum-swap zero n' f = sym (sum-nought n' (λ y. nought) (λ y l. refl))
+  sum-swap (suc n) n' f =
+      ap (λ (s : Carrier). add s (sumBelow 𝓐 n' (f n))) (sum-swap n n' f)
+      ∙ sym (sum-add n' (λ y. sumBelow 𝓐 n (λ x. f x y)) (f n))
 
   -- all but the n terms from s on are nought
   pub sum-window : (N s n : ℕ) (f : ℕ → Carrier) → s + n ≤ N → ((x : ℕ) → x < s → f x ≡ nought) →

@@ -5,4 +5,8 @@ pub mod Places
 pub mod Windows
 pub mod Weighted
 pub mod Extensions
+pub mod Halves
+pub mod Nonzero
+pub mod Agreement
+pub mod CornerCell
 pub mod Examples

@@ -1,3 +1,4 @@
 pub mod Weight
 pub mod Matrix
 pub mod Extension
+pub mod Agreement
