@@ -10,10 +10,13 @@ use lib.Dec.{leb}
 use lib.ListN.{length}
 use Rattle.refusal.specs.Outcome.{Outcome, given, refused, andThen}
 use Rattle.refusal.proofs.Outcomes.{given-injective, given-not-refused}
+use Rattle.algebra.specs.Points.{Below}
+use Rattle.field.specs.Fp.{p}
+use Rattle.key.specs.Check.{checkedKey}
 use Rattle.key.specs.declared.Counts.{Counts}
-use Rattle.evaluate.specs.Inner.{Coordinates}
+use Rattle.evaluate.specs.Inner.{AtPoint}
 use Rattle.evaluate.specs.Judged.{firstOver, pointJudged, placeJudged, sheetJudged}
-use Rattle.evaluate.proofs.FirstOver.{none-over}
+use Rattle.evaluate.proofs.FirstOver.{none-over, all-below}
 use Rattle.evaluate.proofs.Judgements.{sheet-short, sheet-enough, row-outside, column-outside, both-inside, row-count-wrong, column-count-wrong, row-over, column-over, point-given}
 
 -- where a judgement gives counts, they are those that it judged, and something holds of them
@@ -46,14 +49,26 @@ place-gives row column c counts e = go (leb (2 ^ (c .rows)) row) refl (leb (2 ^ 
       (leb-false (2 ^ (c .rows)) row f, leb-false (2 ^ (c .columns)) column g),
     )
 
-pub point-gives : (rows columns : List ℕ) →
-    Gives (pointJudged rows columns) (λ c. Coordinates (c .rows) rows × Coordinates (c .columns) columns)
+-- a point for n row bits and n' column bits
+pub record PointOf (n n' : ℕ) (rows columns : List ℕ) : Type 0 where
+  pub rows-are : length rows ≡ n
+  pub columns-are : length columns ≡ n'
+  pub rows-below : Below p rows
+  pub columns-below : Below p columns
+
+pub point-of : (rows columns : List ℕ) (c : Counts) → PointOf (c .rows) (c .columns) rows columns →
+    pointJudged rows columns c ≡ given c
+point-of rows columns c point =
+    point-given rows columns c (point .rows-are) (point .columns-are)
+    (all-below rows (point .rows-below)) (all-below columns (point .columns-below))
+
+pub point-gives : (rows columns : List ℕ) → Gives (pointJudged rows columns) (λ c. PointOf (c .rows) (c .columns) rows columns)
 point-gives rows columns c counts e =
     go (ℕ-discrete (length rows) (c .rows)) (ℕ-discrete (length columns) (c .columns))
     (decLe (length rows) (firstOver rows)) (decLe (length columns) (firstOver columns))
   where
     go : Dec (length rows ≡ c .rows) → Dec (length columns ≡ c .columns) → Dec (length rows ≤ firstOver rows) →
-        Dec (length columns ≤ firstOver columns) → (c ≡ counts) × (Coordinates (c .rows) rows × Coordinates (c .columns) columns)
+        Dec (length columns ≤ firstOver columns) → (c ≡ counts) × PointOf (c .rows) (c .columns) rows columns
     go (no wrong) _ _ _ = absurd (given-not-refused (sym e ∙ row-count-wrong rows columns c wrong))
     go (yes n) (no wrong) _ _ = absurd (given-not-refused (sym e ∙ column-count-wrong rows columns c n wrong))
     go (yes n) (yes n') (no over) _ = absurd (given-not-refused (sym e ∙ row-over rows columns c n n' (omega arith)))
@@ -61,8 +76,21 @@ point-gives rows columns c counts e =
         absurd (given-not-refused (sym e ∙ column-over rows columns c n n' below (omega arith)))
     go (yes n) (yes n') (yes below) (yes below') = (
       given-injective (sym (point-given rows columns c n n' below below') ∙ e),
-      (
-        record { enough = omega arith; below = none-over rows below },
-        record { enough = omega arith; below = none-over columns below' },
-      ),
+      record {
+        rows-are = n;
+        columns-are = n';
+        rows-below = none-over rows below;
+        columns-below = none-over columns below';
+      },
     )
+
+-- an accepted key, and a point of its shape
+pub at-point : (key rows columns : List ℕ) (counts : Counts) → checkedKey key ≡ given counts →
+    PointOf (counts .rows) (counts .columns) rows columns → AtPoint key rows columns
+at-point key rows columns counts accepted point =
+    record {
+      counts = counts;
+      accepted = accepted;
+      rows-given = record { enough = omega (arith, point .rows-are); below = point .rows-below };
+      columns-given = record { enough = omega (arith, point .columns-are); below = point .columns-below };
+    }

@@ -19,7 +19,7 @@ use Rattle.key.specs.KeyArrays.{keyArrays}
 use Rattle.key.specs.declared.Counts.{Counts}
 use Rattle.key.proofs.Acceptance.{acceptance}
 use Rattle.evaluate.specs.Cell.{denseValues}
-use Rattle.evaluate.specs.Evaluate.{lastOf, valuesAt}
+use Rattle.evaluate.specs.Evaluate.{lastOf, valuesAt, lastValues}
 use Rattle.evaluate.specs.Inner.{Coordinates, AtPoint}
 use Rattle.evaluate.specs.Sheet.{wordsOf, laid}
 use Rattle.evaluate.proofs.Concluded.{arrays-counted}
@@ -64,7 +64,7 @@ module _ (key : List ℕ) (counts : Counts) (accepted : checkedKey key ≡ given
       (accepts .well-formed .rows-at-most-30) (accepts .well-formed .columns-at-most-30)
 
   pub place-values : (row < 2 ^ (counts .rows)) × (column < 2 ^ (counts .columns)) → (values : Values) →
-      values ≡ valuesAt (keyArrays key) rows columns (lastOf (keyArrays key)) →
+      values ≡ lastValues key rows columns →
       values ≡ denseValues (keyArrays key) (lastOf (keyArrays key)) row column
   place-values inside values e =
       e ∙ at-bits (lastOf (keyArrays key)) (omega (arith, accepts .last-of-shape .some-array))

@@ -26,6 +26,9 @@ module _ (key : List ℕ) (counts : Counts) (accepted : checkedKey key ≡ given
   pub arrays-counted : counts .arrays ≡ length (keyArrays key)
   arrays-counted = ap (λ (c : Counts). c .arrays) (acceptance key counts accepted .counted)
 
+  pub at-most-1024 : counts .arrays ≤ 1024
+  at-most-1024 = omega (arith, acceptance key counts accepted .at-most-1024, arrays-counted)
+
   pub table-indexed : (table after : List ℕ) → after ≡ indexedKey key table → Indexed key after
   unfolding indexed
   table-indexed table after e =
@@ -100,8 +103,7 @@ module _ (key : List ℕ) (judge : Counts → Outcome Counts) (Holds : Counts �
   pub few-arrays : (judged : Checked) → Judged judged → FewArrays judged
   few-arrays (Checked.Refused f) call = tt
   few-arrays (Checked.Accepted counts) call =
-      let accepted = then-gives judge Holds (call .gives) (checkedKey key) counts (sym (call .judges)) .0 in
-      omega (arith, acceptance key counts accepted .at-most-1024, arrays-counted key counts accepted)
+      at-most-1024 key counts (then-gives judge Holds (call .gives) (checkedKey key) counts (sym (call .judges)) .0)
 
   module _ (sheet : List ℕ) (admitted : Checked) (call : Admitted sheet admitted) where
     pub admitted-known : (counts : Counts) → admitted ≡ Checked.Accepted counts →

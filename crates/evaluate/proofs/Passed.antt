@@ -8,7 +8,7 @@ use Rattle.arrays.specs.Arrays.{Values}
 use Rattle.key.specs.Accepted.{Accepted}
 use Rattle.key.specs.KeyArrays.{keyArrays}
 use Rattle.key.proofs.Acceptance.{acceptance}
-use Rattle.evaluate.specs.Evaluate.{lastOf, valuesAt}
+use Rattle.evaluate.specs.Evaluate.{lastOf, valuesAt, lastValues}
 use Rattle.evaluate.specs.Inner.{ValuesBelow, AtPoint, sheetValues, Filled, passedValues}
 use Rattle.evaluate.specs.Sheet.{wordsOf, laid}
 use Rattle.evaluate.proofs.Extended.{passed-extended}
@@ -41,7 +41,7 @@ module _ (key rows columns : List ℕ) (point : AtPoint key rows columns) (array
     last-filled = (omega (arith, filled .room, some-array), filled .below (arrays - 1) (omega (arith, some-array)))
 
     pub last-extended : (values : Values) → values ≡ sheetValues after (arrays - 1) →
-        values ≡ valuesAt (keyArrays key) rows columns (lastOf (keyArrays key))
+        values ≡ lastValues key rows columns
     last-extended values e =
         let last : arrays - 1 ≡ lastOf (keyArrays key) = omega arith in
         e

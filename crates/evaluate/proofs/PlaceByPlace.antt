@@ -9,12 +9,12 @@ use Rattle.refusal.specs.Outcome.{Outcome, given, andThen}
 use Rattle.key.specs.Check.{checkedKey}
 use Rattle.key.specs.KeyArrays.{keyArrays}
 use Rattle.key.specs.declared.Counts.{Counts}
-use Rattle.evaluate.specs.Evaluate.{lastOf, valuesAt, evaluated}
+use Rattle.evaluate.specs.Evaluate.{valuesAt, lastValues, evaluated}
 use Rattle.evaluate.specs.Judged.{pointJudged, sheetJudged}
 use Rattle.evaluate.specs.Sheet.{wordsOf, width, laid}
 use Rattle.evaluate.proofs.Concluded.{concluded-given}
 use Rattle.evaluate.proofs.Judgements.{sheet-enough}
-use Rattle.evaluate.proofs.Sheets.{laid-first, laid-behind}
+use Rattle.evaluate.proofs.Sheets.{laid-first, laid-behind, same-behind}
 
 module _ (key rows columns sheet : List ℕ) (counts : Counts) (accepted : checkedKey key ≡ given counts)
     (point : pointJudged rows columns counts ≡ given counts) (room : 3 * counts .arrays ≤ length sheet) where
@@ -27,14 +27,14 @@ module _ (key rows columns sheet : List ℕ) (counts : Counts) (accepted : check
   abbrev words : ℕ → List ℕ
   words i = wordsOf (valuesAt (keyArrays key) rows columns i)
 
-  done : (given (valuesAt (keyArrays key) rows columns (lastOf (keyArrays key))) ≡ evaluated key rows columns sheet .answer) ×
+  done : (given (lastValues key rows columns) ≡ evaluated key rows columns sheet .answer) ×
       (laid 0 (λ i. wordsOf (valuesAt (keyArrays key) rows columns i)) (counts .arrays) sheet ≡ evaluated key rows columns sheet .sheet)
   done =
-      concluded-given _ (λ c. valuesAt (keyArrays key) rows columns (lastOf (keyArrays key)))
+      concluded-given _ (λ c. lastValues key rows columns)
       (λ c. valuesAt (keyArrays key) rows columns) sheet counts (sym admitted)
 
   -- the answer is the last array's extensions
-  pub answer-given : evaluated key rows columns sheet .answer ≡ given (valuesAt (keyArrays key) rows columns (lastOf (keyArrays key)))
+  pub answer-given : evaluated key rows columns sheet .answer ≡ given (lastValues key rows columns)
   answer-given = sym (done .0)
 
   -- the sheet holds every array's
@@ -56,3 +56,6 @@ module _ (key rows columns sheet : List ℕ) (counts : Counts) (accepted : check
       ∙ ap (λ (n : ℕ). drop n (laid 0 words (counts .arrays) sheet)) at
       ∙ laid-behind 3 words (λ n. refl) 0 (counts .arrays) sheet (omega (arith, room))
       ∙ ap (λ (n : ℕ). drop n sheet) (sym at)
+
+  pub place-behind : (k : ℕ) → 3 * counts .arrays ≤ k → getD (evaluated key rows columns sheet .sheet) k 0 ≡ getD sheet k 0
+  place-behind = same-behind (3 * counts .arrays) (evaluated key rows columns sheet .sheet) sheet places-behind

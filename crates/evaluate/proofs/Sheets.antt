@@ -1,12 +1,12 @@
 -- A sheet on which words are laid one behind the other.
-use Prim.Native.Nat.{ℕ, zero, suc, _+_, _*_, _≤_, _<_}
+use Prim.Native.Nat.{ℕ, zero, suc, _+_, _-_, _*_, _≤_, _<_}
 use mathlib.Core.List.{List, [], _∷_, _++_, append-assoc}
 use mathlib.Core.Logic.{_⊎_, inl, inr}
 use mathlib.Core.Path.{_≡_, refl, sym, ap, ap₂, _∙_}
 use native.Mathlib.Nat.{mul-le-mul-left, mul-suc, eq-or-lt-of-le, le-of-suc-le-suc}
 use native.Mathlib.Omega.{arith}
 use lib.ListN.{length, getD, drop, set, take, length-append, List·getD-append}
-use lib.Seq.{sets, sets-eq, length-sets, length-take-le, getD-append-add, drop-append-add, drop-at, getD-set-other}
+use lib.Seq.{sets, sets-eq, length-sets, length-take-le, getD-append-add, drop-append-add, drop-at, getD-drop, getD-set-other}
 use Rattle.evaluate.specs.Sheet.{wordsBelow, laid}
 
 -- three stores one behind the other
@@ -118,3 +118,13 @@ words-same words others (suc count) same =
 pub laid-same : (base : ℕ) (words others : ℕ → List ℕ) (count : ℕ) (sheet : List ℕ) →
     ((i : ℕ) → i < count → words i ≡ others i) → laid base words count sheet ≡ laid base others count sheet
 laid-same base words others count sheet same = ap (sets sheet base) (words-same words others count same)
+
+-- sheets that are the same from a place on, place by place
+pub same-behind : (n : ℕ) (sheet other : List ℕ) → drop n sheet ≡ drop n other → (k : ℕ) → n ≤ k → getD sheet k 0 ≡ getD other k 0
+same-behind n sheet other e k l =
+    let at : k ≡ n + (k - n) = omega arith in
+    ap (λ (i : ℕ). getD sheet i 0) at
+    ∙ sym (getD-drop n sheet (k - n) 0)
+    ∙ ap (λ (s : List ℕ). getD s (k - n) 0) e
+    ∙ getD-drop n other (k - n) 0
+    ∙ ap (λ (i : ℕ). getD other i 0) (sym at)

@@ -36,6 +36,10 @@ valuesAt arrays rows columns i =
     extension fp (dense fp (valueOf part) blocks blocks arrays i)
     (take (arrayAt arrays i .row-bits) rows) (take (arrayAt arrays i .column-bits) columns))
 
+-- the three numbers that evaluate answers for a key: those of the last array
+abbrev pub lastValues : List ℕ → List ℕ → List ℕ → Values
+lastValues key rows columns = valuesAt (keyArrays key) rows columns (lastOf (keyArrays key))
+
 -- what a call answers, and its sheet afterwards
 pub record Evaluation : Type 0 where
   pub answer : Outcome Values
@@ -55,6 +59,6 @@ concluded (given counts) last each sheet =
 abbrev pub evaluated : List ℕ → List ℕ → List ℕ → List ℕ → Evaluation
 evaluated key rows columns sheet =
     concluded (andThen (andThen (checkedKey key) (pointJudged rows columns)) (sheetJudged width (length sheet)))
-    (λ counts. valuesAt (keyArrays key) rows columns (lastOf (keyArrays key)))
+    (λ counts. lastValues key rows columns)
     (λ counts. valuesAt (keyArrays key) rows columns)
     sheet

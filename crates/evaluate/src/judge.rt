@@ -11,8 +11,8 @@ ghost use Rattle.evaluate.specs.Inner.{FewArrays};
 ghost use Rattle.evaluate.specs.Judged.{firstOver, pointJudged, placeJudged, sheetJudged};
 ghost use Rattle.evaluate.specs.Sheet.{width};
 
-// The numbers of rows and columns that a point must have, and its coordinates.
-pub(crate) fn point(checked: Checked, rows: &[u32], columns: &[u32]) -> Checked
+// The numbers of rows and columns that a point must have, and its coordinates. Inner: it requires nothing.
+pub fn point(checked: Checked, rows: &[u32], columns: &[u32]) -> Checked
     ensures { λ r. ⌜ checkedOutcome r ≡ andThen (checkedOutcome checked) (pointJudged (now (rows .entry)) (now (columns .entry))) ⌝ }
 {
     match checked {
@@ -68,7 +68,7 @@ fn place_of(counts: Counts, row: u32, column: u32) -> Checked
 }
 
 // The number of places that a sheet must have. Inner: the key has no more arrays than a key may have.
-pub(crate) fn sheet(checked: Checked, places: usize) -> Checked
+pub fn sheet(checked: Checked, places: usize) -> Checked
     requires { ⌜ FewArrays checked ⌝ }
     ensures { λ r. ⌜ checkedOutcome r ≡ andThen (checkedOutcome checked) (sheetJudged width places) ⌝ }
 {

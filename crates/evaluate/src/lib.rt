@@ -1,8 +1,8 @@
 // An accepted key evaluated at a point (01, 'Dense form and evaluation'), and single cells of its last array.
 mod array;
 mod entry;
-mod judge;
-mod pass;
+pub mod judge;
+pub mod pass;
 mod point;
 mod sheet;
 

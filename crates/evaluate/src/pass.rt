@@ -6,13 +6,13 @@ ghost use mathlib.Core.Path.{_≡_};
 ghost use Prim.Native.Nat.{_*_, _≤_};
 ghost use lib.ListN.{length};
 ghost use Rattle.key.specs.KeyArrays.{keyArrays};
-ghost use Rattle.evaluate.specs.Evaluate.{valuesIn, lastOf, valuesAt};
+ghost use Rattle.evaluate.specs.Evaluate.{valuesIn, lastValues, valuesAt};
 ghost use Rattle.evaluate.specs.Inner.{Indexed, AtPoint, passedValues};
 ghost use Rattle.evaluate.specs.Sheet.{wordsOf, laid};
 
-// Writes every array's values on the sheet and answers those of the last: the extensions of their dense matrices. Inner: as for
-// `pass`.
-pub(crate) fn run(
+// Writes every array's values on the sheet and answers those of the last: the extensions of their dense matrices. Inner: the key is
+// accepted and indexed, the point is one for it, and the sheet has places for all.
+pub fn run(
     key: &[u8],
     starts: &[u32],
     arrays: usize,
@@ -24,15 +24,14 @@ pub(crate) fn run(
     requires { ⌜ arrays ≡ length (keyArrays (now key)) ⌝ }
     requires { ⌜ AtPoint (now key) (now rows) (now columns) ⌝ }
     requires { ⌜ 3 * arrays ≤ length (now sheet) ⌝ }
-    ensures answer { λ r. ⌜ valuesIn r ≡ valuesAt (keyArrays (now (key .entry))) (now (rows .entry)) (now (columns .entry)) (lastOf (keyArrays (now (key .entry)))) ⌝ }
+    ensures answer { λ r. ⌜ valuesIn r ≡ lastValues (now (key .entry)) (now (rows .entry)) (now (columns .entry)) ⌝ }
     ensures sheet { λ _. ⌜ now (sheet .exit) ≡ laid 0 (λ i. wordsOf (valuesAt (keyArrays (now (key .entry))) (now (rows .entry)) (now (columns .entry)) i)) arrays (now (sheet .entry)) ⌝ }
 {
     pass(key, starts, arrays, rows, columns, sheet);
     sheet::values(sheet, arrays - 1)
 }
 
-// Writes every array's values on the sheet, each from those of the arrays before it. Inner: the key is accepted and indexed, the
-// point is one for it, and the sheet has places for all.
+// Writes every array's values on the sheet, each from those of the arrays before it. Inner: as for `run`.
 fn pass(key: &[u8], starts: &[u32], arrays: usize, rows: &[u32], columns: &[u32], sheet: &mut [u32])
     requires { ⌜ Indexed (now key) (now starts) ⌝ }
     requires { ⌜ arrays ≡ length (keyArrays (now key)) ⌝ }

@@ -7,9 +7,8 @@ use lib.ListN.{length}
 use Rattle.refusal.specs.Outcome.{Outcome, given}
 use Rattle.key.specs.Check.{checkedKey}
 use Rattle.key.specs.declared.Counts.{Counts}
-use Rattle.evaluate.specs.Inner.{Coordinates}
 use Rattle.evaluate.specs.Judged.{pointJudged}
-use Rattle.evaluate.proofs.Admission.{point-gives}
+use Rattle.evaluate.proofs.Admission.{PointOf, point-gives, at-point}
 use Rattle.evaluate.proofs.Concluded.{Judged, Admitted, judged-call, admitted-call, arrays-counted, table-indexed, few-arrays, admitted-known, refused-promise, given-promise}
 use Rattle.evaluate.proofs.evaluate.Statement.{statement}
 use Rattle.evaluate.proofs.evaluate.Tie as tie
@@ -22,8 +21,7 @@ abbrev judge : tie.After-point → Counts → Outcome Counts
 judge c = pointJudged (now (start c .args .rows)) (now (start c .args .columns))
 
 abbrev Holds : tie.After-point → Counts → Type 0
-Holds c counts =
-    Coordinates (counts .rows) (now (start c .args .rows)) × Coordinates (counts .columns) (now (start c .args .columns))
+Holds c counts = PointOf (counts .rows) (counts .columns) (now (start c .args .rows)) (now (start c .args .columns))
 
 -- behind that judgement, and behind that of the sheet
 judged-at : (c : tie.After-point) → Judged (now (start c .args .key)) (judge c) (Holds c) (c .point .result)
@@ -74,7 +72,7 @@ run-requires c κs =
       (
         arrays-counted _ _ (known .0),
         (
-          record { counts = judged .judged2 .given .0 .0; accepted = known .0; rows-given = known .1 .0; columns-given = known .1 .1 },
+          at-point _ _ _ _ (known .0) (known .1),
           known .2,
         ),
       ),
