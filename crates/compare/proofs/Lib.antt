@@ -1,0 +1,12 @@
+pub mod Answers
+pub mod Judgements
+pub mod Shapes
+pub mod Pairs
+pub mod Comparisons
+pub mod Passes
+pub mod Places
+pub mod AtPoints
+pub mod LongEnough
+pub mod Agreement
+pub mod Examples
+pub mod CornerKeys

@@ -1,0 +1,58 @@
+-- A sheet is long enough exactly where 31 does not come: on a shorter one it comes, and its place is the length that the key with
+-- more arrays needs. On a long enough one the answer is "same" or "different" (`others` of the agreement bound).
+use Prim.Native.Nat.{ℕ, _+_, _*_, _≤_, _<_, max}
+use mathlib.Core.List.{List}
+use mathlib.Core.Path.{_≡_, sym, ap, _∙_}
+use native.Mathlib.Decide.{decLe}
+use native.Mathlib.Omega.{arith}
+use lib.ListN.{length, take, drop}
+use Rattle.refusal.specs.Number.{numberOf}
+use Rattle.refusal.specs.Outcome.{refuse}
+use Rattle.refusal.specs.declared.Reason.{Reason}
+use Rattle.key.specs.KeyArrays.{keyArrays}
+use Rattle.evaluate.specs.Sheet.{width}
+use Rattle.evaluate.proofs.Concluded.{arrays-counted}
+use Rattle.evaluate.proofs.Judgements.{sheet-short}
+use Rattle.compare.specs.AgreementBound.{AcceptedKey, Point, LongEnough, answerAt}
+use Rattle.compare.specs.Compare.{Comparison, refusedFor, pairJudged}
+use Rattle.compare.specs.declared.Which.{Which}
+use Rattle.compare.proofs.AtPoints.{point-for}
+use Rattle.compare.proofs.Comparisons.{neither-refused}
+use Rattle.compare.proofs.Pairs.{sheet-left}
+use Rattle.compare.proofs.Shapes.{one-shape}
+
+module _ (n n' : ℕ) (first second : List ℕ) (is : AcceptedKey n n' first) (is' : AcceptedKey n n' second) (point : List ℕ)
+    (at : Point (n + n') point) (sheet : List ℕ) (short : LongEnough first second sheet → ⊥) where
+  abbrev needed : ℕ
+  needed = width * max (length (keyArrays first)) (length (keyArrays second))
+
+  too-few : length sheet < needed
+  too-few = go (decLe needed (length sheet))
+    where
+      go : Dec (needed ≤ length sheet) → length sheet < needed
+      go (yes enough) = absurd (short (record { for-first = omega arith; for-second = omega arith }))
+      go (no few) = omega arith
+
+  judged : pairJudged (take n point) (drop n point) (length sheet) (is .counts) (is' .counts) ≡ refuse Reason.SheetTooShort needed
+  judged =
+      let (counts, shaped, larger) =
+      one-shape (is .counts) (is' .counts) (is .row-bits ∙ sym (is' .row-bits)) (is .column-bits ∙ sym (is' .column-bits)) in
+      let full : width * counts .arrays ≡ needed =
+      omega (
+        arith,
+        larger .most,
+        arrays-counted first (is .counts) (is .accepted),
+        arrays-counted second (is' .counts) (is' .accepted),
+      ) in
+      sheet-left (take n point) (drop n point) (length sheet) (is .counts) (is' .counts) counts shaped
+      (rw (sym (larger .rows-first), sym (larger .columns-first)) (point-for n n' first is point at))
+      ∙ sheet-short width (length sheet) counts (omega (arith, too-few, full))
+      ∙ ap (refuse Reason.SheetTooShort) full
+
+  pub short-refused : answerAt n first second point sheet
+      ≡ refusedFor Which.Neither (numberOf Reason.SheetTooShort)
+      (width * max (length (keyArrays first)) (length (keyArrays second)))
+  short-refused =
+      ap (λ (x : Comparison). x .answer)
+      (neither-refused first second (take n point) (drop n point) sheet (is .counts) (is .accepted) (is' .counts) (is' .accepted)
+      _ _ judged)

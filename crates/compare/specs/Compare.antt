@@ -1,0 +1,70 @@
+-- What compare answers, and what it leaves on the sheet (01, 'Comparing two keys').
+use Prim.Native.Nat.{ℕ}
+use mathlib.Core.Bool.{cond, _&&_}
+use mathlib.Core.List.{List}
+use lib.Dec.{eqb, ltb}
+use lib.ListN.{length}
+use Rattle.refusal.specs.Number.{numberOf}
+use Rattle.refusal.specs.Outcome.{Outcome, given, refused, refuse, andThen}
+use Rattle.refusal.specs.declared.Reason.{Reason}
+use Rattle.arrays.specs.Arrays.{Values}
+use Rattle.key.specs.Check.{checkedKey}
+use Rattle.key.specs.declared.Counts.{Counts}
+use Rattle.evaluate.specs.Evaluate.{lastValues, evaluated}
+use Rattle.evaluate.specs.Judged.{pointJudged, sheetJudged}
+use Rattle.evaluate.specs.Sheet.{width}
+use Rattle.compare.specs.declared.Compared.{Compared}
+use Rattle.compare.specs.declared.Which.{Which}
+
+-- "same", "different", or the key that a refusal names, with the refusal's number and place
+pub data Answer : Type 0 where
+  same : Answer
+  different : Answer
+  refusedFor : Which → ℕ → ℕ → Answer
+
+-- what each case of the answer says
+abbrev pub comparedAnswer : Compared → Answer
+comparedAnswer Compared.Same = same
+comparedAnswer Compared.Different = different
+comparedAnswer (Compared.Refused which f) = refusedFor which (numberOf (f .reason)) (f .place)
+
+-- what a call answers, and its sheet afterwards
+pub record Comparison : Type 0 where
+  pub answer : Answer
+  pub sheet : List ℕ
+
+-- A judgement. Where it refuses, the call answers so and names this key, or neither, and the sheet is as it was; else `next`
+-- goes on.
+unfoldable pub naming : Which → Outcome Counts → List ℕ → (Counts → Comparison) → Comparison
+naming which (refused number place) sheet next = record { answer = refusedFor which number place; sheet = sheet }
+naming which (given counts) sheet next = next counts
+
+-- 35 for two keys of different shape; else the counts of the key with more arrays, to which the sheet is held
+unfoldable pub shapesJudged : Counts → Counts → Outcome Counts
+shapesJudged one other =
+    cond (eqb (one .rows) (other .rows) && eqb (one .columns) (other .columns))
+    (given (cond (ltb (one .arrays) (other .arrays)) other one))
+    (refuse Reason.ShapesDiffer 0)
+
+-- what names neither key: 35, then 21, 22, 23, then 31 for the key with more arrays
+abbrev pub pairJudged : List ℕ → List ℕ → ℕ → Counts → Counts → Outcome Counts
+pairJudged rows columns places one other =
+    andThen (andThen (shapesJudged one other) (pointJudged rows columns)) (sheetJudged width places)
+
+-- "same" if all three numbers are equal, else "different"
+unfoldable pub likeness : Values → Values → Answer
+likeness one other =
+    cond (eqb (one .a) (other .a) && eqb (one .b) (other .b) && eqb (one .c) (other .c)) same different
+
+-- The first key's refusals come first, then the second's. The numbers compared are those that evaluate answers for the first key
+-- and for the second, which demand 2 fixes: the extensions of their last arrays' dense matrices. The sheet ends as if the first
+-- key and then the second had been evaluated on it.
+abbrev pub compared : List ℕ → List ℕ → List ℕ → List ℕ → List ℕ → Comparison
+compared first second rows columns sheet =
+    naming Which.First (checkedKey first) sheet (λ one.
+    naming Which.Second (checkedKey second) sheet (λ other.
+    naming Which.Neither (pairJudged rows columns (length sheet) one other) sheet (λ counts.
+    record {
+      answer = likeness (lastValues first rows columns) (lastValues second rows columns);
+      sheet = evaluated second rows columns (evaluated first rows columns sheet .sheet) .sheet;
+    })))
