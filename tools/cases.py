@@ -4,9 +4,10 @@
 usage: cases.py [--check | --help]
 
 Without --check it writes crates/cases/stdin and crates/cases/stdout; with it, it says whether they are up to date and
-exits 1 where they are not. Edges that 01 words are written with the answer that 01 gives, those of evaluate and cell in
-evaluations.py and refusals.py; every answer, of these and of the sweeps around them, is worked out by model.py from 01,
-and the two must agree.
+exits 1 where they are not. Edges that 01 words are written with the answer that 01 gives: those of evaluate and cell in
+evaluations.py and refusals.py, those of compare in comparisons.py and comparison_refusals.py. Every answer, of these and of
+the sweeps around them, is worked out by model.py from 01, and the two must agree. What compare answers at every point of a
+list of values is known in closed form alone (counts.py).
 """
 
 import itertools
@@ -14,6 +15,9 @@ import pathlib
 import struct
 import sys
 
+from comparison_refusals import comparison_refusals
+from comparisons import comparison_cases
+from counts import count_cases
 from draw import Draw, damaged, drawn_key, encoded
 from evaluations import evaluation_cases, numbered
 from model import (
@@ -27,6 +31,7 @@ from model import (
     byte_words,
     cell,
     check,
+    compare,
     encode,
     evaluate,
     joined,
@@ -43,7 +48,18 @@ from model import (
 from refusals import refusal_cases
 
 FOLDER = pathlib.Path(__file__).resolve().parent.parent / "crates" / "cases"
-OPERATIONS = {"sum": 1, "difference": 2, "product": 3, "take": 4, "put": 5, "check": 6, "evaluate": 7, "cell": 8}
+OPERATIONS = {
+    "sum": 1,
+    "difference": 2,
+    "product": 3,
+    "take": 4,
+    "put": 5,
+    "check": 6,
+    "evaluate": 7,
+    "cell": 8,
+    "compare": 9,
+    "count": 10,
+}
 
 # 01, 'An accepted key': beginnings of a key, and the records that may follow each.
 FOLLOWING = {
@@ -64,13 +80,34 @@ def agreed(wanted, answer):
     return answer
 
 
-def lent(data):
-    """A sheet with two places more than the key's arrays need, where it is accepted."""
+def array_count(data):
+    """The number of a key's arrays, 1 where it is not accepted."""
     try:
-        arrays = len(read(data)[1])
+        return len(read(data)[1])
     except Refusal:
-        arrays = 1
-    return numbered(3 * arrays + 2)
+        return 1
+
+
+def lent(*keys):
+    """A sheet with two places more than the arrays of each key need."""
+    return numbered(3 * max(map(array_count, keys)) + 2)
+
+
+def zeros_of(data):
+    """How many of the first bytes are 0."""
+    return len(data) - len(data.lstrip(b"\0"))
+
+
+def laid(first, second):
+    """Bytes that hold two keys, and where each begins and ends in them: equal keys once, and of others the one with more
+    bytes 0 in front before the other.
+    """
+    if first == second:
+        return first, (0, len(first)), (0, len(first))
+    if zeros_of(first) < zeros_of(second):
+        data, behind, front = laid(second, first)
+        return data, front, behind
+    return first + second, (0, len(first)), (len(first), len(first + second))
 
 
 def settled(wanted, sheet):
@@ -146,11 +183,42 @@ class Cases:
         behind = f" at row {row} column {column} on sheet {listed(sheet)}"
         self.add_keyed("cell", name or text, data, behind, answer, (row, column, len(sheet)), sheet)
 
-    def add_keyed(self, operation, text, data, behind, wanted, fields=(), numbers=()):
-        """One case of a key; its first bytes, as far as they are 0, are the case's zeros."""
-        rest = data.lstrip(b"\0")
+    def compare(self, first, second, rows, columns, wanted=None, sheet=None, known=None, unroll=True):
+        """A comparison of two keys in words. `wanted` is what is said, or which key is refused and how, where 01 words it,
+        with the sheet afterwards or without; `known` is each array's A, B and C of the two keys, which keys that are too
+        large to unroll need.
+        """
+        keys = key(first), key(second)
+        sheet = lent(*keys) if sheet is None else sheet
+        answer = compare(*keys, rows, columns, sheet, None if unroll else known)
+        agreed(wanted, answer if wanted and " sheet" in wanted else answer.partition(" sheet")[0])
+        agreed(known and compare(*keys, rows, columns, sheet, known), answer)
+        behind = f" at rows {listed(rows)} columns {listed(columns)} on sheet {listed(sheet)}"
+        counts = (len(rows), len(columns), len(sheet))
+        self.add_pair("compare", (first, second), keys, behind, answer, counts, [*rows, *columns, *sheet])
+
+    def count(self, first, second, bits, values, said, name):
+        """Comparisons of two keys in words at every point of so many row and column coordinates that are among the values,
+        which have a name; `said` gives the letter of each. Answers how many are the same.
+        """
+        letters = "".join(map(said, itertools.product(values, repeat=sum(bits))))
+        wanted = f"{letters} same {letters.count('S')} different {letters.count('D')}"
+        behind = f" at {bits[0]} rows and {bits[1]} columns among {name}"
+        counts = (*bits, len(values))
+        self.add_pair("count", (first, second), (key(first), key(second)), behind, wanted, counts, values)
+        return letters.count("S")
+
+    def add_pair(self, operation, texts, keys, behind, wanted, counts, numbers):
+        """One case of two keys."""
+        data, (x, y), place = laid(*keys)
+        text = " with ".join(text or "nothing" for text in texts)
+        self.add_keyed(operation, text, data, behind, wanted, (*counts, *place), numbers, x, y)
+
+    def add_keyed(self, operation, text, data, behind, wanted, fields=(), numbers=(), x=0, y=0):
+        """One case of a key, or of two; its first bytes, as far as they are 0, are the case's zeros."""
+        zeros = zeros_of(data)
         name = f"{operation} {text or 'nothing'}{behind}"
-        self.add(name, wanted, operation, fields=fields, zeros=len(data) - len(rest), data=rest, numbers=numbers)
+        self.add(name, wanted, operation, x, y, fields=fields, zeros=zeros, data=data[zeros:], numbers=numbers)
 
 
 def field_cases(cases, draw):
@@ -471,6 +539,9 @@ def main(arguments):
     check_cases(cases, draw)
     evaluation_cases(cases, draw)
     refusal_cases(cases, draw)
+    comparison_cases(cases, draw)
+    comparison_refusals(cases, draw)
+    count_cases(cases, draw)
     files = {
         FOLDER / "stdin": struct.pack("<I", len(cases.inputs)) + b"".join(cases.inputs.values()),
         FOLDER / "stdout": b"".join(cases.inputs),

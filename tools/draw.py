@@ -89,6 +89,43 @@ def damaged(draw, records):
     yield data[:at] + data[at + 1 :]
 
 
+def nearly(draw, records):
+    """The records, with A, B or C of one cell greater by one modulo p, where there is a cell."""
+    cells = [i for i, (name, _) in enumerate(records) if name == "cell"]
+    if not cells:
+        return records
+    i, j = cells[draw.below(len(cells))], 2 + draw.below(3)
+    fields = records[i][1]
+    return [*records[:i], ("cell", (*fields[:j], (fields[j] + 1) % P, *fields[j + 1 :])), *records[i + 1 :]]
+
+
+def entry_parts(draw, record):
+    """The records that may stand for an entry where one array more comes first: a cell in two, and the call of the same
+    array.
+    """
+    name, fields = record
+    if name == "call":
+        return [(name, (fields[0] + 1, *fields[1:]))]
+    share = [draw.below(P) for _ in range(3)]
+    rest = [(x - y) % P for x, y in zip(fields[2:], share)]
+    return [(name, (*fields[:2], *values)) for values in (share, rest)]
+
+
+def rewritten(draw, records):
+    """The records of another key of the same circuit: an array that nobody calls comes first, and each array has its cells
+    in two parts and its entries in another order.
+    """
+    head, *others, end = records
+    arrays = []
+    for record in others:
+        if record[0] in ("cell", "call"):
+            for item in entry_parts(draw, record):
+                arrays[-1].insert(1 + draw.below(len(arrays[-1])), item)
+        else:
+            arrays.append([record])
+    return [head, ("sparse", (0, 0)), drawn_cell(draw, (0, 0)), *itertools.chain(*arrays), end]
+
+
 def drawn_point(draw, bits):
     """Row coordinates and column coordinates, as many as the bits."""
     return tuple([draw.below(P) for _ in range(n)] for n in bits)

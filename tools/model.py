@@ -252,6 +252,12 @@ def hold_place(head, row, column):
             raise Refusal(24, place)
 
 
+def hold_shapes(head, other):
+    """Refuses keys of two shapes."""
+    if head != other:
+        raise Refusal(35, 0)
+
+
 def hold_sheet(arrays, sheet):
     """Refuses a sheet that has no place for each array's A, B and C."""
     if len(sheet) < 3 * len(arrays):
@@ -314,6 +320,40 @@ def cell(data, row, column, sheet, known=None):
         return forms[-1].get((row, column), (0, 0, 0)), each
 
     return answered(data, lambda head: hold_place(head, row, column), sheet, give)
+
+
+def named(which, judged, *of):
+    """What a judgement gives; where it refuses, the refusal also names the key that it is about."""
+    try:
+        return judged(*of)
+    except Refusal as refusal:
+        raise Refusal(*refusal.args, which) from refusal
+
+
+def read_pair(first, second, rows, columns, sheet):
+    """The arrays of two keys that are compared at a point on a sheet."""
+    head, arrays = named("first", read, first)
+    other, others = named("second", read, second)
+    named("neither", hold_shapes, head, other)
+    named("neither", hold_point, head, rows, columns)
+    named("neither", hold_sheet, max(arrays, others, key=len), sheet)
+    return arrays, others
+
+
+def verdict(known, others):
+    """What compare says of two keys, by each array's A, B and C."""
+    return "same" if known[-1] == others[-1] else "different"
+
+
+def compare(first, second, rows, columns, sheet, known=None):
+    """What comparing two keys at a point answers, and the sheet afterwards; `known` as for evaluate, of each key."""
+    try:
+        keys = read_pair(first, second, rows, columns, sheet)
+    except Refusal as refusal:
+        *cause, which = refusal.args
+        return outcome(f"{which} {refused(*cause)}", sheet)
+    one, other = known or [triples(arrays, dense(arrays), rows, columns) for arrays in keys]
+    return outcome(verdict(one, other), written(other, written(one, sheet)))
 
 
 def key(text):

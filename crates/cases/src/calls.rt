@@ -1,5 +1,6 @@
 // The public calls, made with a case's numbers and data.
 use crate::header::Header;
+use crate::pairs;
 use crate::print;
 use crate::values;
 use field::Answer;
@@ -32,6 +33,8 @@ fn on(header: Header, buffer: &mut [u8]) {
         6 => print::checked(key::check(buffer)),
         7 => values::at_point(header, buffer),
         8 => values::at_place(header, buffer),
+        9 => pairs::at_point(header, buffer),
+        10 => pairs::at_points(header, buffer),
         _ => {}
     }
 }

@@ -7,13 +7,14 @@ pub struct Header {
     pub operation: u8,
     // The length of the text.
     pub text: usize,
-    // The operands or the offset of the call.
+    // The operands or the offset of the call; of compare, where the first key begins and where it ends.
     pub x: u64,
     pub y: u64,
     // The kind of a record.
     pub kind: u8,
     // The fields of a record; of evaluate, how many row coordinates, column coordinates and places of the sheet there are;
-    // of cell, the row, the column and how many places of the sheet there are.
+    // of cell, the row, the column and how many places of the sheet there are; of compare, as of evaluate, or with the number
+    // of values in place of the sheet's, and where the second key begins and where it ends.
     pub fields: [u32; 5],
     // How many bytes 0 stand in front of the data, and how long the data is.
     pub zeros: usize,

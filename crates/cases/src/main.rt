@@ -2,11 +2,13 @@
 // was got. tools/cases.py writes the cases and the wanted lines from 01.
 //
 // Standard input is the number of cases in four bytes, and then each case: a header of numbers, the text to print in
-// front of what was got, bytes of data, and, where the call has them, the coordinates and what the sheet holds, four bytes
-// for each number. All numbers are little-endian.
+// front of what was got, bytes of data, and, where the call has them, the coordinates and what the sheet holds, or the values
+// that coordinates are taken from, four bytes for each number. All numbers are little-endian.
 mod calls;
 mod header;
+mod pairs;
 mod print;
+mod tally;
 mod values;
 
 fn main() {

@@ -158,7 +158,8 @@ fn field(x: u32) {
     io::write_all(1, b" ");
 }
 
-fn refusal(r: Refusal) {
+// A refusal: its number and its place.
+pub(crate) fn refusal(r: Refusal) {
     let reason = r.reason;
     io::write_all(1, b"refused ");
     number(reason.number() as u64);
@@ -166,6 +167,7 @@ fn refusal(r: Refusal) {
     number(r.place as u64);
 }
 
-fn number(x: u64) {
+// A number.
+pub(crate) fn number(x: u64) {
     io::print_decimal(1, x);
 }

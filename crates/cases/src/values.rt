@@ -45,7 +45,7 @@ fn cell(key: &[u8], row: u32, column: u32, sheet: &mut [u32]) {
 }
 
 // The next numbers of standard input.
-fn fill(numbers: &mut [u32]) {
+pub(crate) fn fill(numbers: &mut [u32]) {
     let mut i = 0;
     while i < numbers.len() {
         numbers[i] = header::next();
