@@ -2,7 +2,7 @@
 -- count of two tests adds up: so a test counts the points that pass it, each once. What it says of other lists does not
 -- matter. All the points are q^m, and a test and its negation share them.
 use Prim.Native.Nat.{ℕ, zero, suc, _+_, _^_}
-use mathlib.Core.Bool.{Bool, true, false, cond, not, _&&_, _||_, and-not-self}
+use mathlib.Core.Bool.{Bool, true, false, cond, not, _&&_, _||_, and-not-self, or-not-self, not-eq-not}
 use mathlib.Core.List.{List, [], _∷_}
 use mathlib.Core.Path.{_≡_, refl, sym, ap, ap₂, _∙_}
 use native.Mathlib.Nat.{add-zero, pow-zero, pow-succ', mul-zero}
@@ -52,17 +52,9 @@ pub count-split : (q m : ℕ) (s : List ℕ → Bool) → countPoints q m s + co
 count-split q m s =
     sym (count-add q m s (λ xs. not (s xs)))
     ∙ ap₂ _+_
-    (count-same q m _ (λ xs. true) (λ xs e b. one (s xs)) ∙ count-all q m)
+    (count-same q m _ (λ xs. true) (λ xs e b. or-not-self (s xs)) ∙ count-all q m)
     (count-same q m _ (λ xs. false) (λ xs e b. and-not-self (s xs)) ∙ count-none q m)
     ∙ add-zero (q ^ m)
-  where
-    one : (b : Bool) → (b || not b) ≡ true
-    one true = refl
-    one false = refl
-
-pub false-unless : (b : Bool) → (b ≡ true → ⊥) → b ≡ false
-false-unless true h = absurd (h refl)
-false-unless false h = refl
 
 -- each point counts once: a test that it alone passes counts 1
 pub count-one : (q m : ℕ) (point : List ℕ) → length point ≡ m → Below q point → (s : List ℕ → Bool) → s point ≡ true →
@@ -75,7 +67,7 @@ count-one q (suc m) (z ∷ zs) e b s t u =
     total-one q z 1 _ (b .0)
     (count-one q m zs (omega arith) (b .1) (λ xs. s (z ∷ xs)) t (λ xs e' b' t'. tails (u (z ∷ xs) (ap suc e') (b .0, b') t')))
     (λ x l d. count-same q m (λ xs. s (x ∷ xs)) (λ xs. false)
-    (λ xs e' b'. false-unless (s (x ∷ xs)) (λ t'. d (heads (u (x ∷ xs) (ap suc e') (l, b') t')))) ∙ count-none q m)
+    (λ xs e' b'. not-eq-not {b = false} .0 (λ t'. d (heads (u (x ∷ xs) (ap suc e') (l, b') t')))) ∙ count-none q m)
   where
     tails : {x : ℕ} {xs : List ℕ} → x ∷ xs ≡ z ∷ zs → xs ≡ zs
     tails p = cc

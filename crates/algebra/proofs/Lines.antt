@@ -37,7 +37,7 @@ module _ (𝓐 : Arithmetic) (𝓕 : FiniteField 𝓐) where
   open Ring ring using (Valid, valid-nought, valid-sub, valid-mul, sub-add, mul-add)
 
   -- two places where a line is nought are one place, or the line is nought at both ends: (b - a)·(r - s) = 0
-  pub line-once : (a b r s : Carrier) → Valid a → Valid b → Valid r → Valid s →
+  line-once : (a b r s : Carrier) → Valid a → Valid b → Valid r → Valid s →
       line 𝓐 a b r ≡ nought → line 𝓐 a b s ≡ nought → (r ≡ s) ⊎ ((a ≡ nought) × (b ≡ nought))
   line-once a b r s va vb vr vs er es =
       go (no-zero-divisors 𝓐 𝓕 (sub b a) (sub r s) (valid-sub b a) (valid-sub r s) product)

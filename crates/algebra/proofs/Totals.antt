@@ -7,7 +7,7 @@ use native.Mathlib.Omega.{arith}
 use Rattle.algebra.specs.Arithmetic.{sumBelow, whole}
 use Rattle.algebra.proofs.Sums.{sum-same}
 
-pub total-le : (n : ℕ) (f g : ℕ → ℕ) → ((x : ℕ) → x < n → f x ≤ g x) → sumBelow whole n f ≤ sumBelow whole n g
+total-le : (n : ℕ) (f g : ℕ → ℕ) → ((x : ℕ) → x < n → f x ≤ g x) → sumBelow whole n f ≤ sumBelow whole n g
 unfolding sumBelow
 total-le zero f g h = zero-le
 total-le (suc n) f g h = omega (arith, total-le n f g (λ x l. h x (omega arith)), h n (le-refl (suc n)))

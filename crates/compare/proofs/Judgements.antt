@@ -1,10 +1,9 @@
 -- The shapes of two keys and the numbers of two keys, case by case.
 use Prim.Native.Nat.{_≤_, _<_}
-use mathlib.Core.Bool.{Bool, true, false, cond, _&&_}
+use mathlib.Core.Bool.{Bool, true, false, cond, _&&_, and-eq-true-iff}
 use mathlib.Core.Logic.{_⊎_, inl, inr}
-use mathlib.Core.Path.{_≡_, sym, _∙_}
-use native.Mathlib.Decide.{ℕ-discrete}
-use borrow.Author.Tests.{lt-ltb, le-ltb, eq-eqb, ne-eqb}
+use mathlib.Core.Path.{_≡_, refl, sym}
+use borrow.Author.Tests.{lt-ltb, le-ltb, eq-eqb, ne-eqb, eqb-true}
 use lib.Dec.{eqb}
 use Rattle.refusal.specs.Outcome.{given, refuse}
 use Rattle.refusal.specs.declared.Reason.{Reason}
@@ -42,30 +41,21 @@ module _ (one other : Counts) where
             le-ltb (one .arrays) (other .arrays) l,
           )
 
+found-same : (b : Bool) → cond b same different ≡ same → b ≡ true
+found-same true e = refl
+found-same false e = absurd (same-not-different (sym e))
+
 module _ (one other : Values) where
-  pub a-differs : (one .a ≡ other .a → ⊥) → likeness one other ≡ different
+  abbrev tested : Bool
+  tested = eqb (one .a) (other .a) && eqb (one .b) (other .b) && eqb (one .c) (other .c)
+
+  pub all-equal : one .a ≡ other .a → one .b ≡ other .b → one .c ≡ other .c → likeness one other ≡ same
   unfolding likeness
-  a-differs d = rw (ne-eqb (one .a) (other .a) d)
-
-  module _ (a-equal : one .a ≡ other .a) where
-    pub b-differs : (one .b ≡ other .b → ⊥) → likeness one other ≡ different
-    unfolding likeness
-    b-differs d = rw (eq-eqb (one .a) (other .a) a-equal, ne-eqb (one .b) (other .b) d)
-
-    module _ (b-equal : one .b ≡ other .b) where
-      pub c-differs : (one .c ≡ other .c → ⊥) → likeness one other ≡ different
-      unfolding likeness
-      c-differs d =
-          rw (eq-eqb (one .a) (other .a) a-equal, eq-eqb (one .b) (other .b) b-equal, ne-eqb (one .c) (other .c) d)
-
-      pub all-equal : one .c ≡ other .c → likeness one other ≡ same
-      unfolding likeness
-      all-equal c-equal =
-          rw (eq-eqb (one .a) (other .a) a-equal, eq-eqb (one .b) (other .b) b-equal, eq-eqb (one .c) (other .c) c-equal)
+  all-equal a b c = rw (eq-eqb (one .a) (other .a) a, eq-eqb (one .b) (other .b) b, eq-eqb (one .c) (other .c) c)
 
   pub likeness-either : (answer : Answer) → answer ≡ likeness one other → (answer ≡ same) ⊎ (answer ≡ different)
   unfolding likeness
-  likeness-either answer = go (eqb (one .a) (other .a) && eqb (one .b) (other .b) && eqb (one .c) (other .c))
+  likeness-either answer = go tested
     where
       go : (b : Bool) → answer ≡ cond b same different → (answer ≡ same) ⊎ (answer ≡ different)
       go true e = inl e
@@ -73,19 +63,25 @@ module _ (one other : Values) where
 
   -- numbers that are found the same are equal, and equal ones are found the same
   pub same-equal : likeness one other ≡ same → (part : Part) → valueOf part one ≡ valueOf part other
-  same-equal e = go (ℕ-discrete (one .a) (other .a)) (ℕ-discrete (one .b) (other .b)) (ℕ-discrete (one .c) (other .c))
+  unfolding likeness
+  same-equal e =
+      let (both, c) =
+      and-eq-true-iff (eqb (one .a) (other .a) && eqb (one .b) (other .b)) (eqb (one .c) (other .c)) .0 (found-same tested e) in
+      let (a, b) = and-eq-true-iff (eqb (one .a) (other .a)) (eqb (one .b) (other .b)) .0 both in
+      parts (eqb-true _ _ a) (eqb-true _ _ b) (eqb-true _ _ c)
     where
-      never : likeness one other ≡ different → ⊥
-      never d = same-not-different (sym e ∙ d)
-
-      go : Dec (one .a ≡ other .a) → Dec (one .b ≡ other .b) → Dec (one .c ≡ other .c) →
-          (part : Part) → valueOf part one ≡ valueOf part other
-      go (no d) _ _ part = absurd (never (a-differs d))
-      go (yes a) (no d) _ part = absurd (never (b-differs a d))
-      go (yes a) (yes b) (no d) part = absurd (never (c-differs a b d))
-      go (yes a) (yes b) (yes c) A = a
-      go (yes a) (yes b) (yes c) B = b
-      go (yes a) (yes b) (yes c) C = c
+      parts : one .a ≡ other .a → one .b ≡ other .b → one .c ≡ other .c → (part : Part) → valueOf part one ≡ valueOf part other
+      parts a b c A = a
+      parts a b c B = b
+      parts a b c C = c
 
   pub equal-same : ((part : Part) → valueOf part one ≡ valueOf part other) → likeness one other ≡ same
   equal-same equal = all-equal (equal A) (equal B) (equal C)
+
+  -- one that differs is enough
+  pub part-differs : (part : Part) → (valueOf part one ≡ valueOf part other → ⊥) → likeness one other ≡ different
+  part-differs part d = go (likeness-either (likeness one other) refl)
+    where
+      go : (likeness one other ≡ same) ⊎ (likeness one other ≡ different) → likeness one other ≡ different
+      go (inl e) = absurd (d (same-equal e part))
+      go (inr e) = e

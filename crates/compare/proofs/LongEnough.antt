@@ -10,15 +10,17 @@ use Rattle.refusal.specs.Number.{numberOf}
 use Rattle.refusal.specs.Outcome.{refuse}
 use Rattle.refusal.specs.declared.Reason.{Reason}
 use Rattle.key.specs.KeyArrays.{keyArrays}
+use Rattle.evaluate.specs.Judged.{pointJudged}
 use Rattle.evaluate.specs.Sheet.{width}
+use Rattle.evaluate.proofs.Admission.{point-of}
 use Rattle.evaluate.proofs.Concluded.{arrays-counted}
+use Rattle.evaluate.proofs.InTurn.{sheet-left}
 use Rattle.evaluate.proofs.Judgements.{sheet-short}
 use Rattle.compare.specs.AgreementBound.{AcceptedKey, Point, LongEnough, answerAt}
-use Rattle.compare.specs.Compare.{Comparison, refusedFor, pairJudged}
+use Rattle.compare.specs.Compare.{Comparison, refusedFor, shapesJudged, pairJudged}
 use Rattle.compare.specs.declared.Which.{Which}
 use Rattle.compare.proofs.AtPoints.{point-for}
 use Rattle.compare.proofs.Comparisons.{neither-refused}
-use Rattle.compare.proofs.Pairs.{sheet-left}
 use Rattle.compare.proofs.Shapes.{one-shape}
 
 module _ (n n' : ℕ) (first second : List ℕ) (is : AcceptedKey n n' first) (is' : AcceptedKey n n' second) (point : List ℕ)
@@ -44,8 +46,9 @@ module _ (n n' : ℕ) (first second : List ℕ) (is : AcceptedKey n n' first) (i
         arrays-counted first (is .counts) (is .accepted),
         arrays-counted second (is' .counts) (is' .accepted),
       ) in
-      sheet-left (take n point) (drop n point) (length sheet) (is .counts) (is' .counts) counts shaped
-      (rw (sym (larger .rows-first), sym (larger .columns-first)) (point-for n n' first is point at))
+      sheet-left (shapesJudged (is .counts) (is' .counts)) (pointJudged (take n point) (drop n point)) (length sheet) counts shaped
+      (point-of (take n point) (drop n point) counts
+      (rw (sym (larger .rows-first), sym (larger .columns-first)) (point-for n n' first is point at)))
       ∙ sheet-short width (length sheet) counts (omega (arith, too-few, full))
       ∙ ap (refuse Reason.SheetTooShort) full
 

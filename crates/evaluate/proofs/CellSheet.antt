@@ -16,11 +16,10 @@ use Rattle.evaluate.specs.Cell.{denseValues, celled}
 use Rattle.evaluate.specs.Evaluate.{lastOf, valuesAt, concluded, evaluated}
 use Rattle.evaluate.specs.Judged.{pointJudged, placeJudged, sheetJudged}
 use Rattle.evaluate.specs.Sheet.{width}
-use Rattle.evaluate.proofs.Admission.{place-gives}
+use Rattle.evaluate.proofs.Admission.{place-gives, point-of}
 use Rattle.evaluate.proofs.AtPlace.{bits-below}
-use Rattle.evaluate.proofs.Concluded.{concluded-given, given-known}
-use Rattle.evaluate.proofs.FirstOver.{all-below}
-use Rattle.evaluate.proofs.Judgements.{point-given}
+use Rattle.evaluate.proofs.Concluded.{concluded-given}
+use Rattle.evaluate.proofs.InTurn.{given-known}
 use Rattle.evaluate.proofs.PlaceByPlace.{sheet-given}
 
 -- an answer that is given was admitted
@@ -34,10 +33,13 @@ answered (refused number place) last each sheet values e = absurd (given-not-ref
 bits-judged : (counts : Counts) (row column : ℕ) →
     pointJudged (bits fp (counts .rows) row) (bits fp (counts .columns) column) counts ≡ given counts
 bits-judged counts row column =
-    let rows = bits fp (counts .rows) row in
-    let columns = bits fp (counts .columns) column in
-    point-given rows columns counts (bits-length fp (counts .rows) row) (bits-length fp (counts .columns) column)
-    (all-below rows (bits-below (counts .rows) row)) (all-below columns (bits-below (counts .columns) column))
+    point-of (bits fp (counts .rows) row) (bits fp (counts .columns) column) counts
+    (record {
+      rows-are = bits-length fp (counts .rows) row;
+      columns-are = bits-length fp (counts .columns) column;
+      rows-below = bits-below (counts .rows) row;
+      columns-below = bits-below (counts .columns) column;
+    })
 
 pub cell-sheet : (key : List ℕ) (row column : ℕ) (sheet : List ℕ) (counts : Counts) (values : Values) →
     checkedKey key ≡ given counts → celled key row column sheet .answer ≡ given values →
@@ -67,7 +69,7 @@ cell-sheet key row column sheet counts values accepted e =
     known : (c : Counts) → judgements ≡ given c → (c ≡ counts) × (3 * c .arrays ≤ length sheet)
     known c a =
         let (checked, inside, enough) =
-        given-known key (placeJudged row column) _ (place-gives row column) (length sheet) c a in
+        given-known (checkedKey key) (placeJudged row column) _ (place-gives row column) (length sheet) c a in
         (given-injective (sym checked ∙ accepted), enough)
 
     at-place : judgements ≡ given counts

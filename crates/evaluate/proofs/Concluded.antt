@@ -1,5 +1,5 @@
 -- What evaluate and cell promise, from what their judgements and their pass give.
-use Prim.Native.Nat.{ℕ, _*_, _≤_}
+use Prim.Native.Nat.{ℕ, _≤_}
 use mathlib.Core.List.{List}
 use mathlib.Core.Path.{_≡_, sym, ap, _∙_}
 use native.Mathlib.Omega.{arith}
@@ -15,11 +15,11 @@ use Rattle.key.specs.declared.Counts.{Counts}
 use Rattle.key.proofs.Acceptance.{acceptance}
 use Rattle.key.proofs.Promises.{table-at}
 use Rattle.evaluate.specs.Evaluate.{Evaluation, concluded, evaluatedOutcome}
-use Rattle.evaluate.specs.Inner.{FewArrays, Indexed}
+use Rattle.evaluate.specs.Inner.{Indexed}
 use Rattle.evaluate.specs.Judged.{sheetJudged}
 use Rattle.evaluate.specs.Sheet.{wordsOf, width, laid}
 use Rattle.evaluate.specs.declared.Evaluated.{Evaluated}
-use Rattle.evaluate.proofs.Admission.{Gives, then-gives, sheet-gives}
+use Rattle.evaluate.proofs.InTurn.{Admitted}
 
 -- an accepted key's counts are those of its arrays
 module _ (key : List ℕ) (counts : Counts) (accepted : checkedKey key ≡ given counts) where
@@ -65,65 +65,21 @@ module _ (o : Outcome Counts) (last : Counts → Values) (each : Counts → ℕ 
     ap (λ (o : Outcome Counts). concluded o last each sheet .sheet) e,
   )
 
-module _ (key : List ℕ) (judge : Counts → Outcome Counts) (Holds : Counts → Type 0) where
-  -- a call that is judged by check and then by `judge`
-  pub record Judged (judged : Checked) : Type 0 where
-    pub gives : Gives judge Holds
-    pub judges : checkedOutcome judged ≡ andThen (checkedKey key) judge
+module _ (first : Outcome Counts) (judge : Counts → Outcome Counts) (Holds : Counts → Type 0) (sheet : List ℕ) (admitted : Checked)
+    (call : Admitted first judge Holds (length sheet) admitted) (last : Counts → Values) (each : Counts → ℕ → Values) where
+  abbrev promise : Evaluation
+  promise = concluded (andThen (andThen first judge) (sheetJudged width (length sheet))) last each sheet
 
-  -- and then by the length of its sheet
-  pub record Admitted (sheet : List ℕ) (admitted : Checked) : Type 0 where
-    pub gives : Gives judge Holds
-    pub admits : checkedOutcome admitted ≡ andThen (andThen (checkedKey key) judge) (sheetJudged width (length sheet))
+  -- what is promised of an answer and of the sheet afterwards
+  abbrev pub Promise : Outcome Values → List ℕ → Type 0
+  Promise answer after = (answer ≡ promise .answer) × (after ≡ promise .sheet)
 
-  -- where nothing is refused, the key is accepted, the judgement holds, and there are places for all arrays
-  pub given-known : Gives judge Holds → (places : ℕ) (counts : Counts) →
-      andThen (andThen (checkedKey key) judge) (sheetJudged width places) ≡ given counts →
-      (checkedKey key ≡ given counts) × Holds counts × (3 * counts .arrays ≤ places)
-  given-known gives places counts e =
-      let (judged, room) =
-      then-gives (sheetJudged width places) (λ c. width * c .arrays ≤ places) (sheet-gives width places)
-      (andThen (checkedKey key) judge) counts e in
-      let (accepted, holds) = then-gives judge Holds gives (checkedKey key) counts judged in
-      (accepted, holds, room)
+  pub refused-promise : (f : Refusal) → admitted ≡ Checked.Refused f →
+      Promise (evaluatedOutcome (Evaluated.Refused f)) sheet
+  refused-promise f e = concluded-refused _ last each sheet _ _ (sym (ap checkedOutcome e) ∙ call .admits)
 
-  pub judged-call : (checked judged : Checked) → Gives judge Holds → checkedOutcome checked ≡ checkedKey key →
-      checkedOutcome judged ≡ andThen (checkedOutcome checked) judge → Judged judged
-  judged-call checked judged gives checks judges =
-      record { gives = gives; judges = judges ∙ ap (λ (o : Outcome Counts). andThen o judge) checks }
-
-  pub admitted-call : (judged admitted : Checked) (sheet : List ℕ) → Judged judged →
-      checkedOutcome admitted ≡ andThen (checkedOutcome judged) (sheetJudged width (length sheet)) → Admitted sheet admitted
-  admitted-call judged admitted sheet call admits =
-      record {
-        gives = call .gives;
-        admits = admits ∙ ap (λ (o : Outcome Counts). andThen o (sheetJudged width (length sheet))) (call .judges);
-      }
-
-  pub few-arrays : (judged : Checked) → Judged judged → FewArrays judged
-  few-arrays (Checked.Refused f) call = tt
-  few-arrays (Checked.Accepted counts) call =
-      at-most-1024 key counts (then-gives judge Holds (call .gives) (checkedKey key) counts (sym (call .judges)) .0)
-
-  module _ (sheet : List ℕ) (admitted : Checked) (call : Admitted sheet admitted) where
-    pub admitted-known : (counts : Counts) → admitted ≡ Checked.Accepted counts →
-        (checkedKey key ≡ given counts) × Holds counts × (3 * counts .arrays ≤ length sheet)
-    admitted-known counts e = given-known (call .gives) (length sheet) counts (sym (call .admits) ∙ ap checkedOutcome e)
-
-    module _ (last : Counts → Values) (each : Counts → ℕ → Values) where
-      abbrev promise : Evaluation
-      promise = concluded (andThen (andThen (checkedKey key) judge) (sheetJudged width (length sheet))) last each sheet
-
-      -- what is promised of an answer and of the sheet afterwards
-      abbrev pub Promise : Outcome Values → List ℕ → Type 0
-      Promise answer after = (answer ≡ promise .answer) × (after ≡ promise .sheet)
-
-      pub refused-promise : (f : Refusal) → admitted ≡ Checked.Refused f →
-          Promise (evaluatedOutcome (Evaluated.Refused f)) sheet
-      refused-promise f e = concluded-refused _ last each sheet _ _ (sym (ap checkedOutcome e) ∙ call .admits)
-
-      pub given-promise : (counts : Counts) → admitted ≡ Checked.Accepted counts → (values : Values) (after : List ℕ) →
-          values ≡ last counts → after ≡ laid 0 (λ i. wordsOf (each counts i)) (counts .arrays) sheet → Promise (given values) after
-      given-promise counts e values after v w =
-          let done = concluded-given _ last each sheet counts (sym (ap checkedOutcome e) ∙ call .admits) in
-          (ap given v ∙ done .0, w ∙ done .1)
+  pub given-promise : (counts : Counts) → admitted ≡ Checked.Accepted counts → (values : Values) (after : List ℕ) →
+      values ≡ last counts → after ≡ laid 0 (λ i. wordsOf (each counts i)) (counts .arrays) sheet → Promise (given values) after
+  given-promise counts e values after v w =
+      let done = concluded-given _ last each sheet counts (sym (ap checkedOutcome e) ∙ call .admits) in
+      (ap given v ∙ done .0, w ∙ done .1)

@@ -11,6 +11,7 @@ pub mod Passing
 pub mod Extended
 pub mod Passed
 pub mod Admission
+pub mod InTurn
 pub mod Concluded
 pub mod AtPlace
 pub mod Answers

@@ -5,7 +5,7 @@ use mathlib.Core.List.{List}
 use mathlib.Core.Path.{_≡_, refl, sym, ap, _∙_}
 use native.Mathlib.Omega.{arith}
 use lib.ListN.{length, getD, drop}
-use Rattle.refusal.specs.Outcome.{Outcome, given, andThen}
+use Rattle.refusal.specs.Outcome.{given, andThen}
 use Rattle.key.specs.Check.{checkedKey}
 use Rattle.key.specs.KeyArrays.{keyArrays}
 use Rattle.key.specs.declared.Counts.{Counts}
@@ -13,6 +13,7 @@ use Rattle.evaluate.specs.Evaluate.{valuesAt, lastValues, evaluated}
 use Rattle.evaluate.specs.Judged.{pointJudged, sheetJudged}
 use Rattle.evaluate.specs.Sheet.{wordsOf, width, laid}
 use Rattle.evaluate.proofs.Concluded.{concluded-given}
+use Rattle.evaluate.proofs.InTurn.{sheet-left}
 use Rattle.evaluate.proofs.Judgements.{sheet-enough}
 use Rattle.evaluate.proofs.Sheets.{laid-first, laid-behind, same-behind}
 
@@ -20,8 +21,7 @@ module _ (key rows columns sheet : List ℕ) (counts : Counts) (accepted : check
     (point : pointJudged rows columns counts ≡ given counts) (room : 3 * counts .arrays ≤ length sheet) where
   admitted : andThen (andThen (checkedKey key) (pointJudged rows columns)) (sheetJudged width (length sheet)) ≡ given counts
   admitted =
-      ap (λ (o : Outcome Counts). andThen (andThen o (pointJudged rows columns)) (sheetJudged width (length sheet))) accepted
-      ∙ ap (λ (o : Outcome Counts). andThen o (sheetJudged width (length sheet))) point
+      sheet-left (checkedKey key) (pointJudged rows columns) (length sheet) counts accepted point
       ∙ sheet-enough width (length sheet) counts room
 
   abbrev words : ℕ → List ℕ

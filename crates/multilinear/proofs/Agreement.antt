@@ -1,7 +1,7 @@
 -- The counting theorem (01, 'Comparing two keys'): at how many points of a finite field two matrices agree. Where they differ at a
 -- place, at no more than q^m - (q-1)^m of the q^m points; where they do not, at all.
 use Prim.Native.Nat.{ℕ, _+_, _-_, _^_, _≤_, _<_}
-use mathlib.Core.Bool.{Bool, true, not}
+use mathlib.Core.Bool.{Bool, true, false, not, not-eq-not}
 use mathlib.Core.List.{List, map}
 use mathlib.Core.Path.{_≡_, sym, ap, ap₂, _∙_}
 use native.Mathlib.Omega.{arith}
@@ -10,7 +10,7 @@ use lib.Seq.{length-take-le}
 use Rattle.algebra.specs.Arithmetic.{Arithmetic}
 use Rattle.algebra.specs.Field.{Ring, FiniteField}
 use Rattle.algebra.specs.Points.{countPoints, Below}
-use Rattle.algebra.proofs.Counts.{count-split, false-unless}
+use Rattle.algebra.proofs.Counts.{count-split}
 use Rattle.algebra.proofs.Fields.{decide}
 use Rattle.algebra.proofs.Rings.{cancel-nought, equal}
 use Rattle.multilinear.specs.Agreement.{Differ, extensionAt}
@@ -64,7 +64,7 @@ module _ (𝓐 : Arithmetic) (𝓕 : FiniteField 𝓐) where
           count-split size k test,
           nonzero difference (λ x y. valid-sub (first x y) (second x y)) (difference-some differ) (λ point. not (test point))
               (λ point e b some.
-              ap not (false-unless (test point) (λ t. some (difference-nought (w point) (w' point) (agree point e b t))))),
+              ap not (not-eq-not {b = false} .0 (λ t. some (difference-nought (w point) (w' point) (agree point e b t))))),
         )
 
     -- where two matrices do not differ they weigh the same, whatever the weights

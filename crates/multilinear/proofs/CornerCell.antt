@@ -16,7 +16,7 @@ use Rattle.multilinear.specs.Weight.{weight}
 use Rattle.multilinear.proofs.Agreement.{agreement-bound}
 
 -- the number of points at which the extensions of two matrices of 2^n rows and 2^n' columns agree
-abbrev pub agreeing : (n n' : ℕ) (first second : Matrix three) → ℕ
+abbrev agreeing : (n n' : ℕ) (first second : Matrix three) → ℕ
 agreeing n n' first second =
     countPoints 3 (n + n') (λ point. eqb (extensionAt three (λ i. i) n first point) (extensionAt three (λ i. i) n second point))
 

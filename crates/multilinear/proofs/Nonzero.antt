@@ -57,7 +57,7 @@ module _ (𝓐 : Arithmetic) (𝓕 : FiniteField 𝓐) where
       (λ z. rest (sym (table-halved 𝓐 ring t (element i) (map element point)) ∙ z)))))
 
   -- with no coordinates behind them: a test that passes wherever the extension of such a table is not nought
-  pub nonzero-table : (n : ℕ) (t : ℕ → Carrier) → ((x : ℕ) → Valid (t x)) → (x : ℕ) → x < 2 ^ n → (t x ≡ nought → ⊥) →
+  nonzero-table : (n : ℕ) (t : ℕ → Carrier) → ((x : ℕ) → Valid (t x)) → (x : ℕ) → x < 2 ^ n → (t x ≡ nought → ⊥) →
       (test : List ℕ → Bool) →
       ((point : List ℕ) → length point ≡ n → Below size point → (tableAt 𝓐 t (map element point) ≡ nought → ⊥) → test point ≡ true) →
       (size - 1) ^ n ≤ countPoints size n test

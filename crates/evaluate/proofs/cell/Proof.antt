@@ -10,7 +10,8 @@ use Rattle.key.specs.declared.Counts.{Counts}
 use Rattle.evaluate.specs.Judged.{placeJudged}
 use Rattle.evaluate.proofs.Admission.{place-gives}
 use Rattle.evaluate.proofs.AtPlace.{place-point, place-values, place-sheet}
-use Rattle.evaluate.proofs.Concluded.{Judged, Admitted, judged-call, admitted-call, arrays-counted, table-indexed, few-arrays, admitted-known, refused-promise, given-promise}
+use Rattle.evaluate.proofs.Concluded.{arrays-counted, at-most-1024, table-indexed, refused-promise, given-promise}
+use Rattle.evaluate.proofs.InTurn.{Judged, Admitted, judged-call, admitted-call, few-arrays, admitted-known}
 use Rattle.evaluate.proofs.cell.Statement.{statement}
 use Rattle.evaluate.proofs.cell.Tie as tie
 
@@ -25,14 +26,14 @@ abbrev Holds : tie.After-place → Counts → Type 0
 Holds c counts = (start c .args .row < 2 ^ (counts .rows)) × (start c .args .column < 2 ^ (counts .columns))
 
 -- behind that judgement, and behind that of the sheet
-judged-at : (c : tie.After-place) → Judged (now (start c .args .key)) (judge c) (Holds c) (c .place .result)
+judged-at : (c : tie.After-place) → Judged (checkedKey (now (start c .args .key))) (judge c) (Holds c) (c .place .result)
 judged-at c =
     judged-call _ _ _ (c .before .before .index .result) (c .place .result)
     (place-gives (start c .args .row) (start c .args .column)) (c .before .before .index .ensures .0) (c .place .ensures)
 
 admitted-at : (c : tie.After-sheet) →
-    Admitted (now (start (c .before) .args .key)) (judge (c .before)) (Holds (c .before)) (now (start (c .before) .args .sheet))
-    (c .sheet .result)
+    Admitted (checkedKey (now (start (c .before) .args .key))) (judge (c .before)) (Holds (c .before))
+    (length (now (start (c .before) .args .sheet))) (c .sheet .result)
 admitted-at c = admitted-call _ _ _ (c .before .place .result) (c .sheet .result) _ (judged-at (c .before)) (c .sheet .ensures)
 
 -- where the call is admitted
@@ -53,7 +54,7 @@ place-requires : tie.Need-place-requires
 place-requires c κs = search needs
 
 sheet-requires : tie.Need-sheet-requires
-sheet-requires c κs = few-arrays _ _ _ (c .place .result) (judged-at c)
+sheet-requires c κs = few-arrays _ _ _ (at-most-1024 _) (c .place .result) (judged-at c)
 
 enum-known-judged : tie.Need-enum-known-judged
 enum-known-judged c = search needs
@@ -108,7 +109,8 @@ returns-2 c =
     let ran = c .before .before .run .ensures in
     let rows = placed .before .before .before .bits .ensures in
     let columns = placed .bits2 .ensures in
-    given-promise _ _ _ _ _ (admitted-at (judged .before .before)) _ _ _ (judged .judged2 .given .1) _ _
+    let call = judged .before .before in
+    given-promise _ _ _ (now (start (call .before) .args .sheet)) _ (admitted-at call) _ _ _ (judged .judged2 .given .1) _ _
     (place-values _ _ (known .0) _ _ _ _ rows columns (known .1) _ (ran .0))
     (place-sheet _ _ (known .0) _ _ _ _ rows columns _ _ (ran .1))
 

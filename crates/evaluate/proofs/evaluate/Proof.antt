@@ -9,7 +9,8 @@ use Rattle.key.specs.Check.{checkedKey}
 use Rattle.key.specs.declared.Counts.{Counts}
 use Rattle.evaluate.specs.Judged.{pointJudged}
 use Rattle.evaluate.proofs.Admission.{PointOf, point-gives, at-point}
-use Rattle.evaluate.proofs.Concluded.{Judged, Admitted, judged-call, admitted-call, arrays-counted, table-indexed, few-arrays, admitted-known, refused-promise, given-promise}
+use Rattle.evaluate.proofs.Concluded.{arrays-counted, at-most-1024, table-indexed, refused-promise, given-promise}
+use Rattle.evaluate.proofs.InTurn.{Judged, Admitted, judged-call, admitted-call, few-arrays, admitted-known}
 use Rattle.evaluate.proofs.evaluate.Statement.{statement}
 use Rattle.evaluate.proofs.evaluate.Tie as tie
 
@@ -24,15 +25,15 @@ abbrev Holds : tie.After-point → Counts → Type 0
 Holds c counts = PointOf (counts .rows) (counts .columns) (now (start c .args .rows)) (now (start c .args .columns))
 
 -- behind that judgement, and behind that of the sheet
-judged-at : (c : tie.After-point) → Judged (now (start c .args .key)) (judge c) (Holds c) (c .point .result)
+judged-at : (c : tie.After-point) → Judged (checkedKey (now (start c .args .key))) (judge c) (Holds c) (c .point .result)
 judged-at c =
     judged-call _ _ _ (c .before .before .index .result) (c .point .result)
     (point-gives (now (start c .args .rows)) (now (start c .args .columns)))
     (c .before .before .index .ensures .0) (c .point .ensures)
 
 admitted-at : (c : tie.After-sheet) →
-    Admitted (now (start (c .before) .args .key)) (judge (c .before)) (Holds (c .before)) (now (start (c .before) .args .sheet))
-    (c .sheet .result)
+    Admitted (checkedKey (now (start (c .before) .args .key))) (judge (c .before)) (Holds (c .before))
+    (length (now (start (c .before) .args .sheet))) (c .sheet .result)
 admitted-at c = admitted-call _ _ _ (c .before .point .result) (c .sheet .result) _ (judged-at (c .before)) (c .sheet .ensures)
 
 -- where the call is admitted
@@ -53,7 +54,7 @@ point-requires : tie.Need-point-requires
 point-requires c κs = search needs
 
 sheet-requires : tie.Need-sheet-requires
-sheet-requires c κs = few-arrays _ _ _ (c .point .result) (judged-at c)
+sheet-requires c κs = few-arrays _ _ _ (at-most-1024 _) (c .point .result) (judged-at c)
 
 enum-known-judged : tie.Need-enum-known-judged
 enum-known-judged c = search needs
@@ -88,7 +89,9 @@ returns-2 : tie.Need-returns-2
 returns-2 c =
     let judged = c .before .before .before .before .before .before in
     let ran = c .before .before .run .ensures in
-    given-promise _ _ _ _ _ (admitted-at (judged .before .before)) _ _ _ (judged .judged2 .given .1) _ _ (ran .0) (ran .1)
+    let call = judged .before .before in
+    given-promise _ _ _ (now (start (call .before) .args .sheet)) _ (admitted-at call) _ _ _ (judged .judged2 .given .1) _ _
+    (ran .0) (ran .1)
 
 pub evaluate-spec : {M : Type 1} → statement M
 evaluate-spec =

@@ -1,9 +1,26 @@
 -- `compare::judge::pair` meets its contract: shapes, point, sheet.
+use native.Mathlib.Omega.{arith}
+use denote.Ref.{now}
 use borrow.Author.Needs.{needs}
-use Rattle.key.specs.Check.{checkedOutcome}
-use Rattle.compare.proofs.Pairs.{pair-judged, few-arrays}
+use Rattle.evaluate.specs.Judged.{pointJudged}
+use Rattle.evaluate.proofs.Admission.{PointOf, point-gives}
+use Rattle.evaluate.proofs.InTurn.{Judged, judged-call, admitted-call, few-arrays}
+use Rattle.compare.specs.Compare.{shapesJudged}
+use Rattle.compare.proofs.Shapes.{shapes-give}
 use Rattle.compare.proofs.judge.pair.Statement.{statement}
 use Rattle.compare.proofs.judge.pair.Tie as tie
+
+-- behind the judgement of the point
+abbrev start : tie.After-point → tie.Start
+start c = c .before .before .before .before
+
+judged-at : (c : tie.After-point) →
+    let args = start c .args in
+    Judged (shapesJudged (args .one) (args .other)) (pointJudged (now (args .rows)) (now (args .columns)))
+    (λ counts. PointOf (counts .rows) (counts .columns) (now (args .rows)) (now (args .columns))) (c .point .result)
+judged-at c =
+    judged-call _ _ _ (c .before .shapes .result) (c .point .result)
+    (point-gives (now (start c .args .rows)) (now (start c .args .columns))) (c .before .shapes .ensures) (c .point .ensures)
 
 shapes-requires : tie.Need-shapes-requires
 shapes-requires c κs = search needs
@@ -13,13 +30,11 @@ point-requires c κs = search needs
 
 sheet-requires : tie.Need-sheet-requires
 sheet-requires c κs =
-    let few = c .before .before .before .before .pre in
-    few-arrays _ _ _ _ (few .0) (few .1) _ (c .point .result) (c .before .shapes .ensures) (c .point .ensures)
+    let few = start c .pre in
+    few-arrays _ _ _ (λ counts e. omega (arith, few .0, few .1, shapes-give _ _ counts e .most)) (c .point .result) (judged-at c)
 
 returns : tie.Need-returns
-returns c =
-    pair-judged _ _ _ _ _ (checkedOutcome (c .before .before .shapes .result)) (checkedOutcome (c .before .point .result)) _
-    (c .before .before .shapes .ensures) (c .before .point .ensures) (c .sheet .ensures)
+returns c = admitted-call _ _ _ (c .before .point .result) (c .sheet .result) _ (judged-at (c .before)) (c .sheet .ensures) .admits
 
 pub pair-spec : {M : Type 1} → statement M
 pair-spec = tie.close (tie.spec shapes-requires point-requires sheet-requires returns)
