@@ -10,25 +10,27 @@ ghost use Rattle.algebra.specs.Points.{Below};
 ghost use Rattle.field.specs.Fp.{p, fp};
 ghost use Rattle.multilinear.specs.Weight.{weight, bits};
 
-// eq([a]; r), where r are the coordinates from one index up to another: the product over them, from the lowest bit on. Inner:
-// there are so many coordinates, each below p.
+// eq([a]; r), where r are the coordinates from one index up to another: the product over them, from the lowest bit on. The
+// factors go in turn to two products, so that none waits for the one before it. Inner: there are so many coordinates, each below p.
 pub(crate) fn weigh(a: u32, coordinates: &[u32], from: usize, to: usize) -> Fp
     requires { ⌜ (from ≤ to) × (to ≤ length (now coordinates)) × Below p (now coordinates) ⌝ }
     ensures { λ r. ⌜ r .0 ≡ weight fp a (slice from to (now (coordinates .entry))) ⌝ }
 {
     let mut product = Fp::one();
+    let mut other = Fp::one();
     let mut rest = a;
     for i in from..to {
-        product = product.mul(factor(rest % 2, Fp::new(coordinates[i])));
+        let next = other.mul(factor(rest % 2, Fp::new(coordinates[i])));
+        other = product;
+        product = next;
         rest = rest / 2;
     }
-    product
+    product.mul(other)
 }
 
-// The factor of a coordinate in a weight: itself where the bit is 1, 1 less it where the bit is 0. Inner: the bit is 0 or 1, and the
-// coordinate is below p.
+// The factor of a coordinate in a weight: itself where the bit is 1, 1 less it where the bit is 0. Inner: the coordinate is below p.
 fn factor(bit: u32, coordinate: Fp) -> Fp
-    requires { ⌜ (bit < 2) × (coordinate .0 < p) ⌝ }
+    requires { ⌜ coordinate .0 < p ⌝ }
     ensures { λ r. ⌜ r .0 ≡ cond (eqb bit 1) (coordinate .0) (fp .sub (fp .unit) (coordinate .0)) ⌝ }
 {
     Fp::choose(bit, coordinate, Fp::one().sub(coordinate))

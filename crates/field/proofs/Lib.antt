@@ -3,4 +3,3 @@ pub mod Divisors
 pub mod Inverses
 pub mod FpField
 pub mod Answers
-pub mod Choices

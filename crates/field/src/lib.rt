@@ -58,15 +58,12 @@ impl Fp {
         self.0
     }
 
-    // The first element where the bit is 1, the second where it is 0. No branch is taken, so that bits without a pattern cost
-    // no more than others. Inner: the bit is 0 or 1.
+    // The first element where the bit is 1, otherwise the second. Both are at hand, so that the test compiles to a move and not to
+    // a branch: bits without a pattern cost no more than others.
     pub fn choose(bit: u32, first: Fp, second: Fp) -> Fp
-        requires { ⌜ bit < 2 ⌝ }
         ensures { λ r. ⌜ r .0 ≡ cond (eqb bit 1) (first .0) (second .0) ⌝ }
     {
-        let one = bit * first.0;
-        let other = (1 - bit) * second.0;
-        Fp(one + other)
+        if bit == 1 { first } else { second }
     }
 
     // The sum. Inner: both are below p.
