@@ -20,6 +20,7 @@ pub mod Grown
 pub mod Finished
 pub mod Made
 pub mod Acceptance
+pub mod Few
 pub mod Tables
 pub mod Verdicts
 pub mod Seeing

@@ -1,8 +1,9 @@
--- No two reasons have one number.
+-- No two reasons have one number, and none has 0.
 use Prim.Native.Nat.{ℕ}
 use mathlib.Core.Bool.{cond}
 use mathlib.Core.List.{List, [], _∷_}
 use mathlib.Core.Path.{_≡_, refl, sym, ap, _∙_}
+use native.Mathlib.Omega.{arith}
 use lib.Dec.{eqb}
 use Rattle.refusal.specs.Number.{numberOf}
 use Rattle.refusal.specs.declared.Reason.{Reason}
@@ -69,3 +70,11 @@ back Reason.InputTooLong = refl
 
 pub number-injective : (r s : Reason) → numberOf r ≡ numberOf s → r ≡ s
 number-injective r s e = sym (back r) ∙ ap (reasonOf every) e ∙ back s
+
+-- 0 is found under no reason, and what is then found has the number 1
+pub number-some : (r : Reason) → numberOf r ≡ 0 → ⊥
+unfolding every reasonOf numberOf
+number-some r e =
+    let is : r ≡ Reason.KeyTooLong = sym (back r) ∙ ap (reasonOf every) e in
+    let one : _≡_ {A = ℕ} 1 0 = ap numberOf (sym is) ∙ e in
+    omega (arith, one)

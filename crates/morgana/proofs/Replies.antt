@@ -1,0 +1,94 @@
+-- What a reply tells: no other answer has it, and `same` is 1 exactly where compare's answer is "same".
+use mathlib.Core.Path.{_≡_, refl, sym, ap, ap₂}
+use native.Mathlib.Omega.{arith}
+use lib.Dec.{eqb}
+use Rattle.refusal.specs.Number.{numberOf}
+use Rattle.refusal.specs.Outcome.{given}
+use Rattle.refusal.specs.declared.Refusal.{Refusal}
+use Rattle.refusal.proofs.Numbers.{number-injective, number-some}
+use Rattle.key.specs.Check.{checkedOutcome}
+use Rattle.key.specs.declared.Checked.{Checked}
+use Rattle.evaluate.specs.Evaluate.{evaluatedOutcome}
+use Rattle.evaluate.specs.declared.Evaluated.{Evaluated}
+use Rattle.evaluate.proofs.Answers.{evaluated-injective}
+use Rattle.compare.specs.AgreementBound.{isSame}
+use Rattle.compare.specs.Compare.{Answer, same, different, refusedFor, comparedAnswer}
+use Rattle.compare.specs.declared.Compared.{Compared}
+use Rattle.compare.specs.declared.Which.{Which}
+use Rattle.morgana.specs.Reply.{checkReply, evaluateReply, keyNumber, compareReply}
+use Rattle.morgana.specs.declared.CheckReply.{CheckReply}
+use Rattle.morgana.specs.declared.CompareReply.{CompareReply}
+use Rattle.morgana.specs.declared.EvaluateReply.{EvaluateReply}
+
+-- a refusal is told by its number and its place
+refusal-told : (f g : Refusal) → numberOf (f .reason) ≡ numberOf (g .reason) → f .place ≡ g .place → f ≡ g
+refusal-told f g numbers places =
+    let reasons = number-injective (f .reason) (g .reason) numbers in
+    λ i. record { reason = reasons i; place = places i }
+
+pub check-told : (r s : Checked) → checkReply (checkedOutcome r) ≡ checkReply (checkedOutcome s) → r ≡ s
+check-told (Checked.Accepted c) (Checked.Accepted d) e =
+    λ i.
+    Checked.Accepted
+    (record {
+      arrays = ap (λ (x : CheckReply). x .arrays) e i;
+      cells = ap (λ (x : CheckReply). x .cells) e i;
+      calls = ap (λ (x : CheckReply). x .calls) e i;
+      rows = ap (λ (x : CheckReply). x .rows) e i;
+      columns = ap (λ (x : CheckReply). x .columns) e i;
+    })
+check-told (Checked.Accepted c) (Checked.Refused g) e =
+    absurd (number-some (g .reason) (sym (ap (λ (x : CheckReply). x .number) e)))
+check-told (Checked.Refused f) (Checked.Accepted d) e =
+    absurd (number-some (f .reason) (ap (λ (x : CheckReply). x .number) e))
+check-told (Checked.Refused f) (Checked.Refused g) e =
+    ap Checked.Refused (refusal-told f g (ap (λ (x : CheckReply). x .number) e) (ap (λ (x : CheckReply). x .place) e))
+
+pub evaluate-told : (r s : Evaluated) → evaluateReply (evaluatedOutcome r) ≡ evaluateReply (evaluatedOutcome s) → r ≡ s
+evaluate-told (Evaluated.Values v) (Evaluated.Values w) e =
+    evaluated-injective (Evaluated.Values v) (Evaluated.Values w)
+    (λ i.
+    given
+    (record {
+      a = ap (λ (x : EvaluateReply). x .a) e i;
+      b = ap (λ (x : EvaluateReply). x .b) e i;
+      c = ap (λ (x : EvaluateReply). x .c) e i;
+    }))
+evaluate-told (Evaluated.Values v) (Evaluated.Refused g) e =
+    absurd (number-some (g .reason) (sym (ap (λ (x : EvaluateReply). x .number) e)))
+evaluate-told (Evaluated.Refused f) (Evaluated.Values w) e =
+    absurd (number-some (f .reason) (ap (λ (x : EvaluateReply). x .number) e))
+evaluate-told (Evaluated.Refused f) (Evaluated.Refused g) e =
+    ap Evaluated.Refused (refusal-told f g (ap (λ (x : EvaluateReply). x .number) e) (ap (λ (x : EvaluateReply). x .place) e))
+
+which-told : (v w : Which) → keyNumber v ≡ keyNumber w → v ≡ w
+which-told Which.First Which.First e = refl
+which-told Which.First Which.Second e = absurd (omega (arith, e))
+which-told Which.First Which.Neither e = absurd (omega (arith, e))
+which-told Which.Second Which.First e = absurd (omega (arith, e))
+which-told Which.Second Which.Second e = refl
+which-told Which.Second Which.Neither e = absurd (omega (arith, e))
+which-told Which.Neither Which.First e = absurd (omega (arith, e))
+which-told Which.Neither Which.Second e = absurd (omega (arith, e))
+which-told Which.Neither Which.Neither e = refl
+
+pub compare-told : (r s : Compared) → compareReply (comparedAnswer r) ≡ compareReply (comparedAnswer s) → r ≡ s
+compare-told Compared.Same Compared.Same e = refl
+compare-told Compared.Same Compared.Different e = absurd (omega (arith, ap (λ (x : CompareReply). x .same) e))
+compare-told Compared.Same (Compared.Refused w g) e = absurd (omega (arith, ap (λ (x : CompareReply). x .same) e))
+compare-told Compared.Different Compared.Same e = absurd (omega (arith, ap (λ (x : CompareReply). x .same) e))
+compare-told Compared.Different Compared.Different e = refl
+compare-told Compared.Different (Compared.Refused w g) e =
+    absurd (number-some (g .reason) (sym (ap (λ (x : CompareReply). x .number) e)))
+compare-told (Compared.Refused v f) Compared.Same e = absurd (omega (arith, ap (λ (x : CompareReply). x .same) e))
+compare-told (Compared.Refused v f) Compared.Different e =
+    absurd (number-some (f .reason) (ap (λ (x : CompareReply). x .number) e))
+compare-told (Compared.Refused v f) (Compared.Refused w g) e =
+    ap₂ Compared.Refused (which-told v w (ap (λ (x : CompareReply). x .key) e))
+    (refusal-told f g (ap (λ (x : CompareReply). x .number) e) (ap (λ (x : CompareReply). x .place) e))
+
+pub same-told : (answer : Answer) → eqb (compareReply answer .same) 1 ≡ isSame answer
+unfolding isSame
+same-told same = refl
+same-told different = refl
+same-told (refusedFor which number place) = refl

@@ -1,0 +1,44 @@
+-- The replies of the C interface, by what is answered. Where nothing is refused, number and place are 0; where something is, every
+-- other field is 0, but for the key that a refused comparison names.
+use Prim.Native.Nat.{ℕ}
+use Rattle.refusal.specs.Outcome.{Outcome, given, refused}
+use Rattle.arrays.specs.Arrays.{Values}
+use Rattle.key.specs.declared.Counts.{Counts}
+use Rattle.compare.specs.Compare.{Answer, same, different, refusedFor}
+use Rattle.compare.specs.declared.Which.{Which}
+use Rattle.morgana.specs.declared.CheckReply.{CheckReply}
+use Rattle.morgana.specs.declared.CompareReply.{CompareReply}
+use Rattle.morgana.specs.declared.EvaluateReply.{EvaluateReply}
+
+-- check's reply: the counts of an accepted key, with n and n'
+abbrev pub checkReply : Outcome Counts → CheckReply
+checkReply (given counts) =
+    record {
+      number = 0;
+      place = 0;
+      arrays = counts .arrays;
+      cells = counts .cells;
+      calls = counts .calls;
+      rows = counts .rows;
+      columns = counts .columns;
+    }
+checkReply (refused number place) =
+    record { number = number; place = place; arrays = 0; cells = 0; calls = 0; rows = 0; columns = 0 }
+
+-- evaluate's reply, and cell's: the last array's values
+abbrev pub evaluateReply : Outcome Values → EvaluateReply
+evaluateReply (given values) = record { number = 0; place = 0; a = values .a; b = values .b; c = values .c }
+evaluateReply (refused number place) = record { number = number; place = place; a = 0; b = 0; c = 0 }
+
+-- the key that a refused comparison names
+abbrev pub keyNumber : Which → ℕ
+keyNumber Which.First = 1
+keyNumber Which.Second = 2
+keyNumber Which.Neither = 0
+
+-- compare's reply: `same` is 1 exactly where the answer is "same" (`same-told` in proofs/Replies.antt)
+abbrev pub compareReply : Answer → CompareReply
+compareReply same = record { number = 0; place = 0; key = 0; same = 1 }
+compareReply different = record { number = 0; place = 0; key = 0; same = 0 }
+compareReply (refusedFor which number place) =
+    record { number = number; place = place; key = keyNumber which; same = 0 }

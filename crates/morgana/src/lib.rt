@@ -1,0 +1,123 @@
+// The C interface (01, 'The keysheet program and the host'): check, evaluate, cell and compare over byte slices and slices of
+// 32-bit numbers. A reply is a struct of numbers: where nothing is refused its number and place are 0, and where something is,
+// every other field is 0, but for the key that a refused comparison names.
+mod reply;
+
+use key::Checked;
+ghost use mathlib.Core.Path.{_≡_};
+ghost use Rattle.key.specs.Check.{checkedKey};
+ghost use Rattle.evaluate.specs.Cell.{celled};
+ghost use Rattle.evaluate.specs.Evaluate.{evaluated};
+ghost use Rattle.compare.specs.AgreementBound.{Agreement};
+ghost use Rattle.compare.specs.Compare.{compared};
+ghost use Rattle.morgana.specs.Reply.{checkReply, evaluateReply, compareReply};
+
+// The reply to check: an accepted key's counts of arrays, cells and calls, and its row bits and column bits.
+#[repr(C)]
+pub struct CheckReply {
+    pub number: u32,
+    pub place: u64,
+    pub arrays: u32,
+    pub cells: u32,
+    pub calls: u32,
+    pub rows: u32,
+    pub columns: u32,
+}
+
+// The reply to evaluate and to cell: the last array's values.
+#[repr(C)]
+pub struct EvaluateReply {
+    pub number: u32,
+    pub place: u64,
+    pub a: u32,
+    pub b: u32,
+    pub c: u32,
+}
+
+// The reply to compare: the key that a refusal is about, 1 the first, 2 the second, 0 neither; and 1 for "same".
+#[repr(C)]
+pub struct CompareReply {
+    pub number: u32,
+    pub place: u64,
+    pub key: u32,
+    pub same: u32,
+}
+
+// Whether bytes are an accepted key: its counts, or the first fault with its place.
+#[no_mangle]
+pub extern "C" fn morgana_check(key: &[u8]) -> CheckReply
+    ensures reply { λ r. ⌜ r ≡ checkReply (checkedKey (now (key .entry))) ⌝ }
+{
+    match key::check(key) {
+        Checked::Accepted(counts) => {
+            let arrays = counts.arrays as u32;
+            let cells = counts.cells as u32;
+            let calls = counts.calls as u32;
+            CheckReply {
+                number: 0,
+                place: 0,
+                arrays: arrays,
+                cells: cells,
+                calls: calls,
+                rows: counts.rows as u32,
+                columns: counts.columns as u32,
+            }
+        }
+        Checked::Refused(refusal) => CheckReply {
+            number: reply::number(refusal),
+            place: refusal.place as u64,
+            arrays: 0,
+            cells: 0,
+            calls: 0,
+            rows: 0,
+            columns: 0,
+        },
+    }
+}
+
+// The last array's A, B and C at a point, and every array's on the sheet, those of array i from place 3i on; a refused call leaves
+// the sheet.
+#[no_mangle]
+pub extern "C" fn morgana_evaluate(
+    key: &[u8],
+    rows: &[u32],
+    columns: &[u32],
+    sheet: &mut [u32],
+) -> EvaluateReply
+    ensures reply { λ r. ⌜ r ≡ evaluateReply (evaluated (now (key .entry)) (now (rows .entry)) (now (columns .entry)) (now (sheet .entry)) .answer) ⌝ }
+    ensures sheet { λ _. ⌜ now (sheet .exit) ≡ evaluated (now (key .entry)) (now (rows .entry)) (now (columns .entry)) (now (sheet .entry)) .sheet ⌝ }
+{
+    reply::of_evaluated(evaluate::evaluate(key, rows, columns, sheet))
+}
+
+// The last array's dense A, B and C at a row and a column, and the sheet as after evaluate at the bits of the two; a refused call
+// leaves the sheet.
+#[no_mangle]
+pub extern "C" fn morgana_cell(
+    key: &[u8],
+    row: u32,
+    column: u32,
+    sheet: &mut [u32],
+) -> EvaluateReply
+    ensures reply { λ r. ⌜ r ≡ evaluateReply (celled (now (key .entry)) row column (now (sheet .entry)) .answer) ⌝ }
+    ensures sheet { λ _. ⌜ now (sheet .exit) ≡ celled (now (key .entry)) row column (now (sheet .entry)) .sheet ⌝ }
+{
+    reply::of_evaluated(evaluate::cell(key, row, column, sheet))
+}
+
+// Whether two keys of one shape have the same A, B and C at a point. The sheet ends as if the first key and then the second had
+// been evaluated on it, and a refused call leaves it. The clause `agreement` is demand 3.
+#[no_mangle]
+pub extern "C" fn morgana_compare(
+    first: &[u8],
+    second: &[u8],
+    rows: &[u32],
+    columns: &[u32],
+    sheet: &mut [u32],
+) -> CompareReply
+    ensures reply { λ r. ⌜ r ≡ compareReply (compared (now (first .entry)) (now (second .entry)) (now (rows .entry)) (now (columns .entry)) (now (sheet .entry)) .answer) ⌝ }
+    ensures sheet { λ _. ⌜ now (sheet .exit) ≡ compared (now (first .entry)) (now (second .entry)) (now (rows .entry)) (now (columns .entry)) (now (sheet .entry)) .sheet ⌝ }
+    ensures agreement { λ _. ⌜ Agreement (now (first .entry)) (now (second .entry)) ⌝ }
+{
+    reply::of_compared(compare::compare(first, second, rows, columns, sheet))
+}
