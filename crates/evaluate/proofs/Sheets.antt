@@ -17,7 +17,7 @@ three-stores sheet at a b c =
     let two : at + 2 ≡ suc (suc at) = omega arith in
     ap₂ (λ (i j : ℕ). set (set (set sheet at a) i b) j c) one two
 
-sets-append : (sheet : List ℕ) (at : ℕ) (xs ys : List ℕ) →
+pub sets-append : (sheet : List ℕ) (at : ℕ) (xs ys : List ℕ) →
     sets sheet at (xs ++ ys) ≡ sets (sets sheet at xs) (at + length xs) ys
 sets-append sheet at [] ys = ap (λ (i : ℕ). sets sheet i ys) (let e : at ≡ at + 0 = omega arith in e)
 sets-append sheet at (x ∷ xs) ys =

@@ -1,5 +1,5 @@
 // The records of a key (01, 'Records'): taken from a byte slice, and put into one.
-mod read;
+pub mod read;
 mod write;
 
 use refusal::Reason;

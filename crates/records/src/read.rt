@@ -65,8 +65,8 @@ fn call(bytes: &[u8], at: usize) -> Call
     }
 }
 
-// The number in four bytes.
-fn four_bytes(bytes: &[u8], at: usize) -> u32
+// The number in four bytes from a place on. Inner: they are there.
+pub fn four_bytes(bytes: &[u8], at: usize) -> u32
     requires { ⌜ at + 4 ≤ length (now bytes) ⌝ }
     ensures { λ r. ⌜ r ≡ numberIn (take 4 (drop at (now (bytes .entry)))) ⌝ }
 {
@@ -87,8 +87,8 @@ fn two_bytes(bytes: &[u8], at: usize) -> u16
     (b0 + 256 * b1) as u16
 }
 
-// The number in one byte.
-fn byte(bytes: &[u8], at: usize) -> u32
+// The number in the byte at a place. Inner: it is there.
+pub fn byte(bytes: &[u8], at: usize) -> u32
     requires { ⌜ at < length (now bytes) ⌝ }
     ensures { λ r. ⌜ (r ≡ getD (now (bytes .entry)) at 0) × (r < 256) ⌝ }
 {
