@@ -1,0 +1,122 @@
+/* Morgana circuit keys: checked, evaluated at a point, asked for single cells, and compared.
+ *
+ * Link with libmorgana.a, on Linux on x86-64. Whatever numbers and slices a call is given, it answers: what it cannot
+ * work with it refuses. The library keeps nothing between calls, so that calls may run at the same time on different
+ * sheets.
+ *
+ * Slices. A slice is a pointer and then a length, which counts bytes for a key and 32-bit numbers otherwise. The
+ * pointer of an empty slice may be null. Every other pointer must point at that many bytes or numbers, be aligned as its
+ * type is, and nothing else may write to them during the call. The sheet must not overlap any other slice of the call; the other slices
+ * may overlap each other.
+ *
+ * Replies. `number` is 0 where nothing is refused, and then `place` is 0. Where the call is refused, `number` and
+ * `place` give the refusal, every other field but `key` is 0, and the sheet is untouched. Replies grow at their end
+ * only: a later version may add fields behind the last one, and moves none. As replies are returned by value, a
+ * program is compiled with the header of the archive that it is linked with.
+ *
+ * The field. p = 2147483647, and a number of the field is 0 to p - 1. A point is n row coordinates and n' column
+ * coordinates below p, where n and n' are the row bits and the column bits of the key's head.
+ *
+ * Refusals.
+ *
+ *   number                                                          place
+ *   Key author
+ *    1  key over 65,536 bytes                                       65536
+ *    2  record missing or cut off                                   offset of the record's first byte
+ *    3  unknown kind                                                likewise
+ *    4  record not allowed at this point, or end before any array   likewise
+ *    5  head bits over 30, or array bits over the head's            likewise
+ *    6  a 1,025th array                                             likewise
+ *    7  cell address outside its array                              likewise
+ *    8  cell value p or more                                        likewise
+ *    9  called id not earlier                                       likewise
+ *   10  called array larger in rows or columns                      likewise
+ *   11  call position too great                                     likewise
+ *   12  last array not of the head's shape                          offset of the end
+ *   13  bytes after the end                                         offset of the first
+ *   Sender of the point
+ *   21  row count not n                                             the count received
+ *   22  column count not n'                                         likewise
+ *   23  coordinate p or more                                        its index, rows first
+ *   24  row or column outside the last array                        0 for the row, 1 for the column
+ *   Calling program
+ *   31  sheet below 3 * arrays                                      the length needed
+ *   35  shapes differ                                               0
+ *
+ * Of several refusals the first in the order that each call gives is answered. Row faults precede column faults, and
+ * of several coordinates the first counts.
+ */
+#ifndef MORGANA_H
+#define MORGANA_H
+
+#include <stddef.h>
+#include <stdint.h>
+
+#ifdef __cplusplus
+extern "C" {
+#endif
+
+/* The prime p. */
+#define MORGANA_P 2147483647u
+
+/* What morgana_check answers. */
+typedef struct MorganaCheckReply {
+    uint32_t number;  /* the number of the refusal, or 0 */
+    uint64_t place;   /* the place of the refusal, or 0 */
+    uint32_t arrays;  /* how many arrays the key has */
+    uint32_t cells;   /* how many cells */
+    uint32_t calls;   /* how many calls */
+    uint32_t rows;    /* the head's row bits n */
+    uint32_t columns; /* the head's column bits n' */
+} MorganaCheckReply;
+
+/* What morgana_evaluate and morgana_cell answer. */
+typedef struct MorganaEvaluateReply {
+    uint32_t number; /* the number of the refusal, or 0 */
+    uint64_t place;  /* the place of the refusal, or 0 */
+    uint32_t a;      /* the last array's A */
+    uint32_t b;      /* the last array's B */
+    uint32_t c;      /* the last array's C */
+} MorganaEvaluateReply;
+
+/* What morgana_compare answers. */
+typedef struct MorganaCompareReply {
+    uint32_t number; /* the number of the refusal, or 0 */
+    uint64_t place;  /* the place of the refusal, or 0 */
+    uint32_t key;    /* the key at fault: 1 the first, 2 the second, 0 neither */
+    uint32_t same;   /* 1 for "same", 0 for "different" */
+} MorganaCompareReply;
+
+/* Answers the counts of an accepted key, with n and n'. Refuses with 1, then record by record with 2 for no byte, 3, 2
+ * for a cut body, 4, 6, 5, 7 to 12 by number, 13. */
+MorganaCheckReply morgana_check(const uint8_t *key, size_t key_length);
+
+/* Answers the last array's A, B and C at a point, and writes every array's triple into the sheet, array i's at 3i;
+ * places from 3 * arrays on stay. Refuses as morgana_check does, then with 21, 22, 23, 31. */
+MorganaEvaluateReply morgana_evaluate(const uint8_t *key, size_t key_length,
+                                      const uint32_t *rows, size_t rows_length,
+                                      const uint32_t *columns, size_t columns_length,
+                                      uint32_t *sheet, size_t sheet_length);
+
+/* Answers the last array's dense A, B and C at a row and a column; the sheet is then as after morgana_evaluate at the
+ * point whose coordinates are the bits of row and column, lowest first. Refuses as morgana_check does, then with 24,
+ * 31. */
+MorganaEvaluateReply morgana_cell(const uint8_t *key, size_t key_length,
+                                  uint32_t row, uint32_t column,
+                                  uint32_t *sheet, size_t sheet_length);
+
+/* Answers "same" if the three numbers that morgana_evaluate answers for the first key at a point equal those for the
+ * second, else "different"; the sheet is then as after evaluating the first key and then the second. Refuses as
+ * morgana_check does for the first key, then for the second, and `key` says which; then with 35, 21, 22, 23, and 31 for
+ * the key with more arrays, where `key` is 0. */
+MorganaCompareReply morgana_compare(const uint8_t *first, size_t first_length,
+                                    const uint8_t *second, size_t second_length,
+                                    const uint32_t *rows, size_t rows_length,
+                                    const uint32_t *columns, size_t columns_length,
+                                    uint32_t *sheet, size_t sheet_length);
+
+#ifdef __cplusplus
+}
+#endif
+
+#endif

@@ -1,0 +1,36 @@
+//! What the library answers when nothing is refused.
+
+/// The counts of an accepted key, with its shape.
+#[derive(Debug, Clone, Copy, PartialEq, Eq)]
+pub struct Counts {
+    /// How many arrays the key opens.
+    pub arrays: u32,
+    /// How many cells stand in its sparse arrays.
+    pub cells: u32,
+    /// How many calls stand in its recursive arrays.
+    pub calls: u32,
+    /// The head's row bits n.
+    pub rows: u32,
+    /// The head's column bits n'.
+    pub columns: u32,
+}
+
+/// The values of the three matrices at a point or in a cell.
+#[derive(Debug, Clone, Copy, PartialEq, Eq)]
+pub struct Values {
+    /// The value of A.
+    pub a: u32,
+    /// The value of B.
+    pub b: u32,
+    /// The value of C.
+    pub c: u32,
+}
+
+/// What compare answers about two keys at a point.
+#[derive(Debug, Clone, Copy, PartialEq, Eq)]
+pub enum Compared {
+    /// The keys have the same A, the same B and the same C there.
+    Same,
+    /// The keys differ there in A, B or C.
+    Different,
+}

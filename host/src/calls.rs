@@ -1,0 +1,116 @@
+//! The four calls of the library as safe functions: all unsafe code of the library and of keytool stands here.
+#![allow(unsafe_code)]
+
+use crate::answers::{Compared, Counts, Values};
+use crate::raw;
+use crate::refusal::{CompareRefusal, Refusal, Which};
+
+/// Answers the counts of an accepted key, with n and n'; or the first of refusals 1 to 13.
+pub fn check(key: &[u8]) -> Result<Counts, Refusal> {
+    // SAFETY: the pointer and the length are of one slice, which is lent until the call returns.
+    let reply = unsafe { raw::morgana_check(key.as_ptr(), key.len()) };
+    refused(reply.number, reply.place)?;
+    Ok(Counts {
+        arrays: reply.arrays,
+        cells: reply.cells,
+        calls: reply.calls,
+        rows: reply.rows,
+        columns: reply.columns,
+    })
+}
+
+/// Answers the last array's A, B and C at a point, and writes array i's triple into the sheet at 3i; or refuses
+/// as check does, or with 21, 22, 23 or 31.
+pub fn evaluate(
+    key: &[u8],
+    rows: &[u32],
+    columns: &[u32],
+    sheet: &mut [u32],
+) -> Result<Values, Refusal> {
+    // SAFETY: each pointer and length are of one slice, lent until the call returns, and the sheet, lent for
+    // writing, overlaps no other.
+    values(unsafe {
+        raw::morgana_evaluate(
+            key.as_ptr(),
+            key.len(),
+            rows.as_ptr(),
+            rows.len(),
+            columns.as_ptr(),
+            columns.len(),
+            sheet.as_mut_ptr(),
+            sheet.len(),
+        )
+    })
+}
+
+/// Answers the last array's dense A, B and C at a row and a column, the sheet as after evaluate at the point of their
+/// bits; or refuses as check does, or with 24 or 31.
+pub fn cell(key: &[u8], row: u32, column: u32, sheet: &mut [u32]) -> Result<Values, Refusal> {
+    // SAFETY: each pointer and length are of one slice, lent until the call returns, and the sheet, lent for
+    // writing, overlaps no other.
+    values(unsafe {
+        raw::morgana_cell(
+            key.as_ptr(),
+            key.len(),
+            row,
+            column,
+            sheet.as_mut_ptr(),
+            sheet.len(),
+        )
+    })
+}
+
+/// Answers whether two keys of one shape have the same A, B and C at a point, the sheet as after evaluating the first
+/// and then the second; or refuses as check does, naming the key, or with 35, 21, 22, 23 or 31.
+pub fn compare(
+    first: &[u8],
+    second: &[u8],
+    rows: &[u32],
+    columns: &[u32],
+    sheet: &mut [u32],
+) -> Result<Compared, CompareRefusal> {
+    // SAFETY: each pointer and length are of one slice, lent until the call returns, and the sheet, lent for
+    // writing, overlaps no other.
+    let reply = unsafe {
+        raw::morgana_compare(
+            first.as_ptr(),
+            first.len(),
+            second.as_ptr(),
+            second.len(),
+            rows.as_ptr(),
+            rows.len(),
+            columns.as_ptr(),
+            columns.len(),
+            sheet.as_mut_ptr(),
+            sheet.len(),
+        )
+    };
+    let which = match reply.key {
+        1 => Which::First,
+        2 => Which::Second,
+        _ => Which::Neither,
+    };
+    refused(reply.number, reply.place).map_err(|refusal| CompareRefusal { which, refusal })?;
+    Ok(match reply.same {
+        1 => Compared::Same,
+        _ => Compared::Different,
+    })
+}
+
+/// The values of a reply, or its refusal.
+fn values(reply: raw::EvaluateReply) -> Result<Values, Refusal> {
+    refused(reply.number, reply.place)?;
+    Ok(Values {
+        a: reply.a,
+        b: reply.b,
+        c: reply.c,
+    })
+}
+
+/// The refusal of a reply, if it has one: 0 is the number of no refusal.
+fn refused(number: u32, place: u64) -> Result<(), Refusal> {
+    match number {
+        0 => Ok(()),
+        _ => Err(Refusal { number, place }),
+    }
+}

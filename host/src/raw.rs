@@ -1,0 +1,126 @@
+//! The C interface of `libmorgana.a`, as `include/morgana.h` gives it.
+//!
+//! A slice is a pointer and then a length; the pointer of an empty slice may be null. A call is sound
+//! where each pointer and its length are of one slice that is lent for the call, and the sheet
+//! overlaps no other slice.
+
+use std::mem::{offset_of, size_of};
+
+/// What `morgana_check` answers.
+#[repr(C)]
+#[derive(Debug, Clone, Copy, PartialEq, Eq)]
+pub struct CheckReply {
+    /// The number of the refusal; 0 where nothing is refused.
+    pub number: u32,
+    /// The place of the refusal; 0 where nothing is refused.
+    pub place: u64,
+    /// How many arrays the key opens.
+    pub arrays: u32,
+    /// How many cells it has.
+    pub cells: u32,
+    /// How many calls it has.
+    pub calls: u32,
+    /// The head's row bits n.
+    pub rows: u32,
+    /// The head's column bits n'.
+    pub columns: u32,
+}
+
+/// What `morgana_evaluate` and `morgana_cell` answer.
+#[repr(C)]
+#[derive(Debug, Clone, Copy, PartialEq, Eq)]
+pub struct EvaluateReply {
+    /// The number of the refusal; 0 where nothing is refused.
+    pub number: u32,
+    /// The place of the refusal; 0 where nothing is refused.
+    pub place: u64,
+    /// The last array's A.
+    pub a: u32,
+    /// The last array's B.
+    pub b: u32,
+    /// The last array's C.
+    pub c: u32,
+}
+
+/// What `morgana_compare` answers.
+#[repr(C)]
+#[derive(Debug, Clone, Copy, PartialEq, Eq)]
+pub struct CompareReply {
+    /// The number of the refusal; 0 where nothing is refused.
+    pub number: u32,
+    /// The place of the refusal; 0 where nothing is refused.
+    pub place: u64,
+    /// The key at fault: 1 the first, 2 the second, 0 neither.
+    pub key: u32,
+    /// 1 where the answer is "same", else 0.
+    pub same: u32,
+}
+
+const _: () = {
+    assert!(size_of::<CheckReply>() == 40);
+    assert!(offset_of!(CheckReply, number) == 0);
+    assert!(offset_of!(CheckReply, place) == 8);
+    assert!(offset_of!(CheckReply, arrays) == 16);
+    assert!(offset_of!(CheckReply, cells) == 20);
+    assert!(offset_of!(CheckReply, calls) == 24);
+    assert!(offset_of!(CheckReply, rows) == 28);
+    assert!(offset_of!(CheckReply, columns) == 32);
+};
+
+const _: () = {
+    assert!(size_of::<EvaluateReply>() == 32);
+    assert!(offset_of!(EvaluateReply, number) == 0);
+    assert!(offset_of!(EvaluateReply, place) == 8);
+    assert!(offset_of!(EvaluateReply, a) == 16);
+    assert!(offset_of!(EvaluateReply, b) == 20);
+    assert!(offset_of!(EvaluateReply, c) == 24);
+};
+
+const _: () = {
+    assert!(size_of::<CompareReply>() == 24);
+    assert!(offset_of!(CompareReply, number) == 0);
+    assert!(offset_of!(CompareReply, place) == 8);
+    assert!(offset_of!(CompareReply, key) == 16);
+    assert!(offset_of!(CompareReply, same) == 20);
+};
+
+extern "C" {
+    /// Checks a key.
+    pub fn morgana_check(key: *const u8, key_length: usize) -> CheckReply;
+
+    /// Evaluates a key at a point and writes every array's triple into the sheet.
+    pub fn morgana_evaluate(
+        key: *const u8,
+        key_length: usize,
+        rows: *const u32,
+        rows_length: usize,
+        columns: *const u32,
+        columns_length: usize,
+        sheet: *mut u32,
+        sheet_length: usize,
+    ) -> EvaluateReply;
+
+    /// Answers one cell of the last array's dense matrices.
+    pub fn morgana_cell(
+        key: *const u8,
+        key_length: usize,
+        row: u32,
+        column: u32,
+        sheet: *mut u32,
+        sheet_length: usize,
+    ) -> EvaluateReply;
+
+    /// Compares two keys at a point.
+    pub fn morgana_compare(
+        first: *const u8,
+        first_length: usize,
+        second: *const u8,
+        second_length: usize,
+        rows: *const u32,
+        rows_length: usize,
+        columns: *const u32,
+        columns_length: usize,
+        sheet: *mut u32,
+        sheet_length: usize,
+    ) -> CompareReply;
+}

@@ -1,0 +1,139 @@
+//! Why a call is refused, and where.
+
+use std::error::Error;
+use std::fmt::{Display, Formatter, Result};
+
+/// A refusal: its number, and the place that the number gives a meaning to.
+#[derive(Debug, Clone, Copy, PartialEq, Eq)]
+pub struct Refusal {
+    /// The number of the condition that was met.
+    pub number: u32,
+    /// Where: for 1 to 13 an offset in the key.
+    pub place: u64,
+}
+
+impl Refusal {
+    /// The condition that the number stands for.
+    pub fn sentence(&self) -> &'static str {
+        match (self.number, self.place) {
+            (1, _) => "key over 65,536 bytes",
+            (2, _) => "record missing or cut off",
+            (3, _) => "unknown kind",
+            (4, _) => "record not allowed at this point, or end before any array",
+            (5, _) => "head bits over 30, or array bits over the head's",
+            (6, _) => "a 1,025th array",
+            (7, _) => "cell address outside its array",
+            (8, _) => "cell value p or more",
+            (9, _) => "called id not earlier",
+            (10, _) => "called array larger in rows or columns",
+            (11, _) => "call position too great",
+            (12, _) => "last array not of the head's shape",
+            (13, _) => "bytes after the end",
+            (21, _) => "row count not n",
+            (22, _) => "column count not n'",
+            (23, _) => "coordinate p or more",
+            (24, 0) => "row outside the last array",
+            (24, _) => "column outside the last array",
+            (31, _) => "sheet below 3·arrays",
+            (32, _) => "record doesn't fit behind the offset",
+            (33, _) => "offset greater than the slice's length",
+            (34, _) => "field operand p or more",
+            (35, _) => "shapes differ",
+            (41, _) => "input shorter than its two counts and their coordinates",
+            (42, _) => "input over 65,536 bytes",
+            _ => "unknown number",
+        }
+    }
+}
+
+impl Display for Refusal {
+    fn fmt(&self, out: &mut Formatter) -> Result {
+        let (number, place) = (self.number, self.place);
+        write!(out, "refused {number} at {place}: {}", self.sentence())
+    }
+}
+
+impl Error for Refusal {}
+
+/// The key that a refusal of compare is about.
+#[derive(Debug, Clone, Copy, PartialEq, Eq)]
+pub enum Which {
+    /// The first key is at fault.
+    First,
+    /// The second key is at fault.
+    Second,
+    /// Both keys are accepted; their shapes, the point or the sheet are at fault.
+    Neither,
+}
+
+/// A refusal of compare, with the key that it is about.
+#[derive(Debug, Clone, Copy, PartialEq, Eq)]
+pub struct CompareRefusal {
+    /// The key at fault.
+    pub which: Which,
+    /// What is wrong, and where.
+    pub refusal: Refusal,
+}
+
+impl Display for CompareRefusal {
+    fn fmt(&self, out: &mut Formatter) -> Result {
+        match self.which {
+            Which::First => write!(out, "first key {}", self.refusal),
+            Which::Second => write!(out, "second key {}", self.refusal),
+            Which::Neither => write!(out, "{}", self.refusal),
+        }
+    }
+}
+
+impl Error for CompareRefusal {}
+
+#[cfg(test)]
+mod tests {
+    use super::*;
+
+    #[test]
+    fn each_number_of_the_library_has_its_own_sentence() {
+        let numbers = [1..=13, 21..=24, 31..=35, 41..=42];
+        let sentences: Vec<_> = numbers
+            .into_iter()
+            .flatten()
+            .map(|number| Refusal { number, place: 0 }.sentence())
+            .collect();
+        for (index, sentence) in sentences.iter().enumerate() {
+            assert_ne!(*sentence, "unknown number");
+            assert!(!sentences[..index].contains(sentence), "{sentence}");
+        }
+    }
+
+    #[test]
+    fn a_refusal_prints_number_place_and_sentence() {
+        let print = |number, place| Refusal { number, place }.to_string();
+        assert_eq!(
+            print(7, 12),
+            "refused 7 at 12: cell address outside its array"
+        );
+        assert_eq!(print(24, 0), "refused 24 at 0: row outside the last array");
+        assert_eq!(
+            print(24, 1),
+            "refused 24 at 1: column outside the last array"
+        );
+        assert_eq!(print(99, 5), "refused 99 at 5: unknown number");
+    }
+
+    #[test]
+    fn a_refusal_of_compare_prints_its_key() {
+        let print = |which, number| {
+            let refusal = Refusal { number, place: 0 };
+            CompareRefusal { which, refusal }.to_string()
+        };
+        assert_eq!(
+            print(Which::First, 3),
+            "first key refused 3 at 0: unknown kind"
+        );
+        assert_eq!(
+            print(Which::Second, 3),
+            "second key refused 3 at 0: unknown kind"
+        );
+        assert_eq!(print(Which::Neither, 35), "refused 35 at 0: shapes differ");
+    }
+}

@@ -1,0 +1,130 @@
+//! The replies as C sees them: every field, all others 0 where the answer is a refusal.
+
+use morgana::raw::{self, CheckReply, CompareReply, EvaluateReply};
+
+use crate::independent::{CompareRefusal, Counts, Refusal};
+
+/// The reply that check gives for an answer: all other fields 0 where it is a refusal.
+pub fn check_reply(answer: Result<Counts, Refusal>) -> CheckReply {
+    match answer {
+        Ok(counts) => CheckReply {
+            number: 0,
+            place: 0,
+            arrays: counts.arrays,
+            cells: counts.cells,
+            calls: counts.calls,
+            rows: counts.rows,
+            columns: counts.columns,
+        },
+        Err(Refusal { number, place }) => CheckReply {
+            number,
+            place,
+            arrays: 0,
+            cells: 0,
+            calls: 0,
+            rows: 0,
+            columns: 0,
+        },
+    }
+}
+
+/// The reply that evaluate and cell give for an answer.
+pub fn evaluate_reply(answer: Result<[u32; 3], Refusal>) -> EvaluateReply {
+    match answer {
+        Ok([a, b, c]) => EvaluateReply {
+            number: 0,
+            place: 0,
+            a,
+            b,
+            c,
+        },
+        Err(Refusal { number, place }) => EvaluateReply {
+            number,
+            place,
+            a: 0,
+            b: 0,
+            c: 0,
+        },
+    }
+}
+
+/// The reply that compare gives for an answer.
+pub fn compare_reply(answer: Result<bool, CompareRefusal>) -> CompareReply {
+    match answer {
+        Ok(same) => CompareReply {
+            number: 0,
+            place: 0,
+            key: 0,
+            same: same.into(),
+        },
+        Err(CompareRefusal { key, refusal }) => CompareReply {
+            number: refusal.number,
+            place: refusal.place,
+            key,
+            same: 0,
+        },
+    }
+}
+
+/// Check's reply as C sees it.
+pub fn raw_check(key: &[u8]) -> CheckReply {
+    // SAFETY: the pointer and the length are those of a slice.
+    unsafe { raw::morgana_check(key.as_ptr(), key.len()) }
+}
+
+/// Evaluate's reply as C sees it.
+pub fn raw_evaluate(key: &[u8], rows: &[u32], columns: &[u32], sheet: &mut [u32]) -> EvaluateReply {
+    // SAFETY: each pointer and length are those of a slice, and the sheet overlaps no other.
+    unsafe {
+        raw::morgana_evaluate(
+            key.as_ptr(),
+            key.len(),
+            rows.as_ptr(),
+            rows.len(),
+            columns.as_ptr(),
+            columns.len(),
+            sheet.as_mut_ptr(),
+            sheet.len(),
+        )
+    }
+}
+
+/// Cell's reply as C sees it.
+pub fn raw_cell(key: &[u8], row: u32, column: u32, sheet: &mut [u32]) -> EvaluateReply {
+    // SAFETY: each pointer and length are those of a slice, and the sheet overlaps no other.
+    unsafe {
+        raw::morgana_cell(
+            key.as_ptr(),
+            key.len(),
+            row,
+            column,
+            sheet.as_mut_ptr(),
+            sheet.len(),
+        )
+    }
+}
+
+/// Compare's reply as C sees it.
+pub fn raw_compare(
+    first: &[u8],
+    second: &[u8],
+    rows: &[u32],
+    columns: &[u32],
+    sheet: &mut [u32],
+) -> CompareReply {
+    // SAFETY: each pointer and length are those of a slice, and the sheet overlaps no other.
+    unsafe {
+        raw::morgana_compare(
+            first.as_ptr(),
+            first.len(),
+            second.as_ptr(),
+            second.len(),
+            rows.as_ptr(),
+            rows.len(),
+            columns.as_ptr(),
+            columns.len(),
+            sheet.as_mut_ptr(),
+            sheet.len(),
+        )
+    }
+}

@@ -1,0 +1,150 @@
+//! Runs many drawn cases, counts their outcomes, and says which case failed.
+
+// Each test program uses a part of this module.
+#![allow(dead_code)]
+
+use std::collections::BTreeMap;
+use std::env;
+use std::fmt::{Debug, Write};
+use std::ops::RangeInclusive;
+
+use crate::generator::random::Random;
+use crate::independent::{CompareRefusal, Refusal};
+use crate::lent::Lent;
+
+/// The seed where `MORGANA_SEED` gives none.
+const SEED: u64 = 2_147_483_647;
+/// An outcome has to come at least once in so many cases.
+const CASES_PER_OUTCOME: u64 = 500;
+
+/// What one case came to.
+pub struct Case {
+    pub outcome: String,
+    faults: Vec<String>,
+    keys: Vec<Vec<u8>>,
+    input: String,
+}
+
+impl Case {
+    /// A case on these keys and this input, with the outcome that is wanted.
+    pub fn new(keys: &[&[u8]], input: String, outcome: String) -> Case {
+        Case {
+            outcome,
+            faults: Vec::new(),
+            keys: keys.iter().map(|key| key.to_vec()).collect(),
+            input,
+        }
+    }
+
+    /// Notes a fault where two things differ.
+    pub fn hold<T: Debug + PartialEq>(&mut self, what: &str, got: T, wanted: T) {
+        if got != wanted {
+            let fault = format!("{what}: got {got:?}, wanted {wanted:?}");
+            self.faults.push(fault);
+        }
+    }
+
+    /// Notes a fault where the lent sheet is not the wanted one or a word around it is another
+    /// than before, and lends the sheet anew.
+    pub fn hold_sheet(&mut self, what: &str, sheet: &mut Lent<u32>, wanted: &[u32]) {
+        self.hold(what, sheet.slice(), wanted);
+        self.hold("words around the sheet", sheet.is_unchanged_around(), true);
+        sheet.restore();
+    }
+
+    /// Notes a fault where keys or points, lent to be read, are others than before.
+    pub fn hold_unchanged(&mut self, keys: &[&Lent<u8>], points: &[&Lent<u32>]) {
+        let keys = keys.iter().all(|lent| lent.is_unchanged());
+        self.hold("keys unchanged", keys, true);
+        let points = points.iter().all(|lent| lent.is_unchanged());
+        self.hold("point unchanged", points, true);
+    }
+
+    /// The faults with the input and the keys in hexadecimal.
+    fn describe(&self) -> String {
+        let mut text = self.faults.join("\n");
+        write!(text, "\n{}", self.input).unwrap();
+        for key in &self.keys {
+            text.push_str("\nkey ");
+            for byte in key {
+                write!(text, "{byte:02x}").unwrap();
+            }
+        }
+        text
+    }
+}
+
+/// Runs the cases of a test: as many as `MORGANA_CASES` says, else the usual number. Every outcome
+/// of the list has to come often enough, and no other may come.
+pub fn run(name: &str, usual: u64, outcomes: &[String], one: impl Fn(&mut Random) -> Case) {
+    let seed = variable("MORGANA_SEED").unwrap_or(SEED);
+    let cases = variable("MORGANA_CASES").unwrap_or(usual);
+    let mut tally: BTreeMap<String, u64> = BTreeMap::new();
+    for number in 0..cases {
+        let case = one(&mut Random::of_case(own_seed(name, seed), number));
+        assert!(
+            case.faults.is_empty(),
+            "{name}: seed {seed} case {number}\n{}",
+            case.describe()
+        );
+        *tally.entry(case.outcome).or_default() += 1;
+    }
+    println!("{name}: seed {seed}, {cases} cases: {tally:?}");
+    for outcome in outcomes {
+        let count = tally.remove(outcome).unwrap_or(0);
+        assert!(
+            count >= cases / CASES_PER_OUTCOME,
+            "{name}: outcome '{outcome}' came {count} times"
+        );
+    }
+    assert!(tally.is_empty(), "{name}: outcomes of no list: {tally:?}");
+}
+
+/// The seed of the test of this name, so that tests of other names draw other cases.
+fn own_seed(name: &str, seed: u64) -> u64 {
+    let mix = |seed: u64, byte: u8| seed.wrapping_mul(257).wrapping_add(byte.into());
+    name.bytes().fold(seed, mix)
+}
+
+/// The number that an environment variable gives.
+fn variable(name: &str) -> Option<u64> {
+    let text = env::var(name).ok()?;
+    Some(text.parse().expect("the variable is a number"))
+}
+
+/// A list of outcomes: these, and a text before every number of each range.
+pub fn outcomes(named: &[&str], ranges: &[(&str, RangeInclusive<u32>)]) -> Vec<String> {
+    let mut list: Vec<String> = named.iter().map(|name| name.to_string()).collect();
+    for (text, range) in ranges {
+        list.extend(range.clone().map(|number| format!("{text} {number}")));
+    }
+    list
+}
+
+/// The outcome of an answer of evaluate or cell.
+pub fn values_outcome(answer: &Result<[u32; 3], Refusal>) -> String {
+    match answer {
+        Ok([0, 0, 0]) => String::from("zero"),
+        _ => outcome(answer),
+    }
+}
+
+/// The outcome of an answer that is given or refused.
+pub fn outcome<T>(answer: &Result<T, Refusal>) -> String {
+    match answer {
+        Ok(_) => String::from("accepted"),
+        Err(Refusal { number, .. }) => format!("refused {number}"),
+    }
+}
+
+/// The outcome of an answer of compare.
+pub fn compare_outcome(answer: &Result<bool, CompareRefusal>) -> String {
+    match answer {
+        Ok(true) => String::from("same"),
+        Ok(false) => String::from("different"),
+        Err(CompareRefusal { key, refusal }) => {
+            let which = ["neither", "first", "second"][*key as usize];
+            format!("{which} {}", refusal.number)
+        }
+    }
+}

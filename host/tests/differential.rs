@@ -1,0 +1,149 @@
+//! The archive held to the independent implementation on drawn keys, points and sheets: the
+//! answer, every field of the reply, every place of the sheet, and all that lies around what is
+//! lent. `MORGANA_SEED` and `MORGANA_CASES` give another seed and another number of cases.
+
+mod archive;
+mod cases;
+mod generator;
+mod independent;
+mod lent;
+
+#[path = "differential/held.rs"]
+mod held;
+
+use cases::{outcomes, run};
+use generator::damage::{damaged, mostly_damaged};
+use generator::inputs::{address, faulty_point, point, sheet, short_sheet, Point};
+use generator::keys::any;
+use generator::path::{end_of, path};
+use generator::random::Random;
+use generator::variants::{arrays, second, shape};
+use held::{cell_case, check_case, compare_case, evaluate_case};
+use independent::record::{bytes, Record};
+
+/// Check: the counts or the refusal, on whole and damaged keys.
+#[test]
+fn check_agrees() {
+    let wanted = outcomes(&["accepted"], &[("refused", 1..=13)]);
+    run("check", 30_000, &wanted, |random| {
+        let key = mostly_damaged(random);
+        check_case(random, &key)
+    });
+}
+
+/// Evaluate: the last array's values or the refusal, and the sheet.
+#[test]
+fn evaluate_agrees() {
+    let numbers = [
+        ("refused", 1..=13),
+        ("refused", 21..=23),
+        ("refused", 31..=31),
+    ];
+    run(
+        "evaluate",
+        20_000,
+        &outcomes(&["accepted", "zero"], &numbers),
+        |random| {
+            let records = any(random);
+            let key = mostly_whole(random, &records);
+            let point = mostly_fitting_point(random, shape(&records));
+            let sheet = mostly_long_sheet(random, arrays(&records));
+            evaluate_case(random, &key, &point, &sheet)
+        },
+    );
+}
+
+/// Cell: the dense values at a row and a column or the refusal, and the sheet.
+#[test]
+fn cell_agrees() {
+    let numbers = [
+        ("refused", 1..=13),
+        ("refused", 24..=24),
+        ("refused", 31..=31),
+    ];
+    run(
+        "cell",
+        20_000,
+        &outcomes(&["accepted", "zero"], &numbers),
+        |random| {
+            let records = any(random);
+            let key = mostly_whole(random, &records);
+            let (row, column) = mostly_filled_place(random, &records);
+            let sheet = mostly_long_sheet(random, arrays(&records));
+            cell_case(random, &key, row, column, &sheet)
+        },
+    );
+}
+
+/// Compare: same, different or the refusal and the key it names, and the sheet.
+#[test]
+fn compare_agrees() {
+    let numbers = [
+        ("first", 1..=13),
+        ("second", 1..=13),
+        ("neither", 35..=35),
+        ("neither", 21..=23),
+        ("neither", 31..=31),
+    ];
+    run(
+        "compare",
+        25_000,
+        &outcomes(&["same", "same at zero", "different"], &numbers),
+        |random| {
+            let first = any(random);
+            let second = second(random, &first);
+            let keys = [mostly_whole(random, &first), mostly_whole(random, &second)];
+            let point = mostly_fitting_point(random, shape(&first));
+            let arrays = [arrays(&first), arrays(&second)];
+            let sheet = if random.chance(6) {
+                // Long enough for one of the keys at most.
+                sheet(random, arrays[0].min(arrays[1]))
+            } else {
+                mostly_long_sheet(random, arrays[0].max(arrays[1]))
+            };
+            compare_case(random, &keys, &point, &sheet)
+        },
+    );
+}
+
+/// The bytes of a key, of four keys one damaged.
+fn mostly_whole(random: &mut Random, records: &[Record]) -> Vec<u8> {
+    if random.chance(4) {
+        damaged(random, records)
+    } else {
+        bytes(records)
+    }
+}
+
+/// A point, of five points one that does not fit.
+fn mostly_fitting_point(random: &mut Random, (rows, columns): (usize, usize)) -> Point {
+    if random.chance(5) {
+        faulty_point(random, rows, columns)
+    } else {
+        point(random, rows, columns)
+    }
+}
+
+/// A row and a column: mostly of a place that holds something, else of any place, or outside.
+fn mostly_filled_place(random: &mut Random, records: &[Record]) -> (u32, u32) {
+    let (rows, columns) = shape(records);
+    match random.below(12) {
+        0 => (address(random, rows, true), address(random, columns, false)),
+        1 => (address(random, rows, true), address(random, columns, true)),
+        2 => (address(random, rows, false), address(random, columns, true)),
+        3..=5 => (
+            address(random, rows, false),
+            address(random, columns, false),
+        ),
+        _ => end_of(&path(random, records), records),
+    }
+}
+
+/// A sheet, of eight sheets one too short.
+fn mostly_long_sheet(random: &mut Random, arrays: usize) -> Vec<u32> {
+    if random.chance(8) {
+        short_sheet(random, arrays)
+    } else {
+        sheet(random, arrays)
+    }
+}

@@ -1,0 +1,128 @@
+//! One case of each call: the archive's answer, by the safe call and by the raw one, held to the
+//! independent implementation's.
+
+use crate::archive;
+use crate::cases::{compare_outcome, outcome, values_outcome, Case};
+use crate::generator::inputs::Point;
+use crate::generator::random::Random;
+use crate::independent::calls;
+use crate::lent::{lend_bytes, lend_numbers};
+
+/// One case of check, by the safe call and by the raw one.
+pub fn check_case(random: &mut Random, key: &[u8]) -> Case {
+    let answer = calls::check(key);
+    let mut case = Case::new(&[key], String::new(), outcome(&answer));
+    let lent = lend_bytes(random, key);
+    case.hold("check", archive::check(lent.slice()), answer);
+    case.hold_unchanged(&[&lent], &[]);
+    let reply = archive::raw_check(lent.slice());
+    case.hold("check's reply", reply, archive::check_reply(answer));
+    case.hold_unchanged(&[&lent], &[]);
+    case
+}
+
+/// One case of evaluate, by the safe call and by the raw one.
+pub fn evaluate_case(random: &mut Random, key: &[u8], point: &Point, sheet: &[u32]) -> Case {
+    let (rows, columns) = point;
+    let mut wanted = sheet.to_vec();
+    let answer = calls::evaluate(key, rows, columns, &mut wanted);
+    let input = format!("rows {rows:?} columns {columns:?} sheet {sheet:?}");
+    let mut case = Case::new(&[key], input, values_outcome(&answer));
+    let key = lend_bytes(random, key);
+    let rows = lend_numbers(random, rows);
+    let columns = lend_numbers(random, columns);
+    let mut sheet = lend_numbers(random, sheet);
+
+    let got = archive::evaluate(
+        key.slice(),
+        rows.slice(),
+        columns.slice(),
+        sheet.slice_mut(),
+    );
+    case.hold("evaluate", got, answer);
+    case.hold_sheet("sheet", &mut sheet, &wanted);
+    case.hold_unchanged(&[&key], &[&rows, &columns]);
+    let reply = archive::raw_evaluate(
+        key.slice(),
+        rows.slice(),
+        columns.slice(),
+        sheet.slice_mut(),
+    );
+    case.hold("evaluate's reply", reply, archive::evaluate_reply(answer));
+    case.hold_sheet("sheet of the reply", &mut sheet, &wanted);
+    case.hold_unchanged(&[&key], &[&rows, &columns]);
+    case
+}
+
+/// One case of cell, by the safe call and by the raw one.
+pub fn cell_case(random: &mut Random, key: &[u8], row: u32, column: u32, sheet: &[u32]) -> Case {
+    let mut wanted = sheet.to_vec();
+    let answer = calls::cell(key, row, column, &mut wanted);
+    let input = format!("row {row} column {column} sheet {sheet:?}");
+    let mut case = Case::new(&[key], input, values_outcome(&answer));
+    let key = lend_bytes(random, key);
+    let mut sheet = lend_numbers(random, sheet);
+
+    let got = archive::cell(key.slice(), row, column, sheet.slice_mut());
+    case.hold("cell", got, answer);
+    case.hold_sheet("sheet", &mut sheet, &wanted);
+    case.hold_unchanged(&[&key], &[]);
+    let reply = archive::raw_cell(key.slice(), row, column, sheet.slice_mut());
+    case.hold("cell's reply", reply, archive::evaluate_reply(answer));
+    case.hold_sheet("sheet of the reply", &mut sheet, &wanted);
+    case.hold_unchanged(&[&key], &[]);
+    case
+}
+
+/// One case of compare, by the safe call and by the raw one.
+pub fn compare_case(
+    random: &mut Random,
+    keys: &[Vec<u8>; 2],
+    point: &Point,
+    sheet: &[u32],
+) -> Case {
+    let [first, second] = keys;
+    let (rows, columns) = point;
+    let mut wanted = sheet.to_vec();
+    let answer = calls::compare(first, second, rows, columns, &mut wanted);
+    let input = format!("rows {rows:?} columns {columns:?} sheet {sheet:?}");
+    let outcome = if answer == Ok(true) && last_triple(second, &wanted) == [0; 3] {
+        String::from("same at zero")
+    } else {
+        compare_outcome(&answer)
+    };
+    let mut case = Case::new(&[first, second], input, outcome);
+    let first = lend_bytes(random, first);
+    let second = lend_bytes(random, second);
+    let rows = lend_numbers(random, rows);
+    let columns = lend_numbers(random, columns);
+    let mut sheet = lend_numbers(random, sheet);
+
+    let got = archive::compare(
+        first.slice(),
+        second.slice(),
+        rows.slice(),
+        columns.slice(),
+        sheet.slice_mut(),
+    );
+    case.hold("compare", got, answer);
+    case.hold_sheet("sheet", &mut sheet, &wanted);
+    case.hold_unchanged(&[&first, &second], &[&rows, &columns]);
+    let reply = archive::raw_compare(
+        first.slice(),
+        second.slice(),
+        rows.slice(),
+        columns.slice(),
+        sheet.slice_mut(),
+    );
+    case.hold("compare's reply", reply, archive::compare_reply(answer));
+    case.hold_sheet("sheet of the reply", &mut sheet, &wanted);
+    case.hold_unchanged(&[&first, &second], &[&rows, &columns]);
+    case
+}
+
+/// The last array's values of an accepted key on a sheet on which it was evaluated last.
+fn last_triple<'a>(key: &[u8], sheet: &'a [u32]) -> &'a [u32] {
+    let arrays = calls::check(key).expect("the key is accepted").arrays as usize;
+    &sheet[3 * arrays - 3..3 * arrays]
+}

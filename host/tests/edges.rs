@@ -1,0 +1,24 @@
+//! The request's edges and starred cases, written out with the request's numbers, and the limits
+//! of sizes and of 32-bit numbers.
+
+mod archive;
+mod generator;
+mod independent;
+mod written;
+
+#[path = "edges/comparisons.rs"]
+mod comparisons;
+#[path = "edges/fields.rs"]
+mod fields;
+#[path = "edges/full.rs"]
+mod full;
+#[path = "edges/inputs.rs"]
+mod inputs;
+#[path = "edges/records.rs"]
+mod records;
+#[path = "edges/slices.rs"]
+mod slices;
+#[path = "edges/starred.rs"]
+mod starred;
+#[path = "edges/towers.rs"]
+mod towers;

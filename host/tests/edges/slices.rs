@@ -1,0 +1,134 @@
+//! Empty slices with null pointers, through the calls as C sees them.
+
+use std::ptr::{null, null_mut};
+
+use crate::archive;
+use crate::independent::record::Record::Sparse;
+use crate::independent::{CompareRefusal, Refusal};
+use crate::written::{cell, key, sample};
+use morgana::raw::{morgana_cell, morgana_check, morgana_compare, morgana_evaluate};
+
+/// The key with one array of one place.
+fn single() -> Vec<u8> {
+    key(0, 0, &[Sparse(0, 0), cell(0, 0, [4, 5, 6])])
+}
+
+/// A refusal of the key itself, at its first byte.
+const MISSING: Refusal = Refusal {
+    number: 2,
+    place: 0,
+};
+
+/// The refusal of a sheet that is empty.
+const NO_SHEET: Refusal = Refusal {
+    number: 31,
+    place: 3,
+};
+
+/// The key as null.
+#[test]
+fn null_key() {
+    let mut sheet = [7; 3];
+    let sheet = sheet.as_mut_ptr();
+    // SAFETY: a null pointer goes with the length 0, and the sheet has 3 numbers.
+    unsafe {
+        let reply = morgana_check(null(), 0);
+        assert_eq!(reply, archive::check_reply(Err(MISSING)));
+        let reply = morgana_evaluate(null(), 0, null(), 0, null(), 0, sheet, 3);
+        assert_eq!(reply, archive::evaluate_reply(Err(MISSING)));
+        let reply = morgana_cell(null(), 0, 0, 0, sheet, 3);
+        assert_eq!(reply, archive::evaluate_reply(Err(MISSING)));
+        let reply = morgana_cell(null(), 0, u32::MAX, u32::MAX, null_mut(), 0);
+        assert_eq!(reply, archive::evaluate_reply(Err(MISSING)));
+        let reply = morgana_evaluate(null(), 0, null(), 0, null(), 0, null_mut(), 0);
+        assert_eq!(reply, archive::evaluate_reply(Err(MISSING)));
+    }
+}
+
+/// The point as null, where the key has no coordinates: the key is evaluated.
+#[test]
+fn null_point() {
+    let key = single();
+    let mut sheet = [7; 4];
+    // SAFETY: a null pointer goes with the length 0, all else is of slices.
+    unsafe {
+        let (bytes, length) = (key.as_ptr(), key.len());
+        let out = sheet.as_mut_ptr();
+        let reply = morgana_evaluate(bytes, length, null(), 0, null(), 0, out, 4);
+        assert_eq!(reply, archive::evaluate_reply(Ok([4, 5, 6])));
+    }
+    assert_eq!(sheet, [4, 5, 6, 7]);
+}
+
+/// The point as null, where the key has coordinates: 21 or 22 at 0.
+#[test]
+fn null_point_of_the_wrong_count() {
+    let sample = sample();
+    let (bytes, length) = (sample.as_ptr(), sample.len());
+    let row = [3];
+    let mut sheet = [7; 6];
+    // SAFETY: a null pointer goes with the length 0, all else is of slices.
+    unsafe {
+        let out = sheet.as_mut_ptr();
+        let reply = morgana_evaluate(bytes, length, null(), 0, null(), 0, out, 6);
+        assert_eq!((reply.number, reply.place), (21, 0));
+        let reply = morgana_evaluate(bytes, length, row.as_ptr(), 1, null(), 0, out, 6);
+        assert_eq!((reply.number, reply.place), (22, 0));
+    }
+    assert_eq!(sheet, [7; 6]);
+}
+
+/// The sheet as null: 31 with the length needed.
+#[test]
+fn null_sheet() {
+    let key = single();
+    let (bytes, length) = (key.as_ptr(), key.len());
+    // SAFETY: a null pointer goes with the length 0, all else is of slices.
+    unsafe {
+        let reply = morgana_evaluate(bytes, length, null(), 0, null(), 0, null_mut(), 0);
+        assert_eq!(reply, archive::evaluate_reply(Err(NO_SHEET)));
+        let reply = morgana_cell(bytes, length, 0, 0, null_mut(), 0);
+        assert_eq!(reply, archive::evaluate_reply(Err(NO_SHEET)));
+    }
+}
+
+/// Every slice of compare as null, one after the other and all at once.
+#[test]
+fn nulls_of_compare() {
+    let key = single();
+    let (bytes, length) = (key.as_ptr(), key.len());
+    let mut sheet = [7; 4];
+    let refused = |key, refusal| archive::compare_reply(Err(CompareRefusal { key, refusal }));
+    let none: *const u32 = null();
+    // SAFETY: a null pointer goes with the length 0, all else is of slices.
+    unsafe {
+        let out = sheet.as_mut_ptr();
+        let reply = morgana_compare(null(), 0, bytes, length, none, 0, none, 0, out, 4);
+        assert_eq!(reply, refused(1, MISSING));
+        let reply = morgana_compare(bytes, length, null(), 0, none, 0, none, 0, out, 4);
+        assert_eq!(reply, refused(2, MISSING));
+        let reply = morgana_compare(null(), 0, null(), 0, none, 0, none, 0, null_mut(), 0);
+        assert_eq!(reply, refused(1, MISSING));
+        let reply = morgana_compare(
+            bytes,
+            length,
+            bytes,
+            length,
+            none,
+            0,
+            none,
+            0,
+            null_mut(),
+            0,
+        );
+        assert_eq!(reply, refused(0, NO_SHEET));
+    }
+    assert_eq!(sheet, [7; 4]);
+    // SAFETY: as above.
+    unsafe {
+        let out = sheet.as_mut_ptr();
+        let reply = morgana_compare(bytes, length, bytes, length, none, 0, none, 0, out, 4);
+        assert_eq!(reply, archive::compare_reply(Ok(true)));
+    }
+    assert_eq!(sheet, [4, 5, 6, 7]);
+}

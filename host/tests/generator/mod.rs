@@ -1,0 +1,13 @@
+//! Keys, whole and damaged, and points and sheets, all drawn from a seed.
+
+// Each test program uses a part of these modules.
+#![allow(dead_code)]
+
+pub mod damage;
+pub mod inputs;
+pub mod keys;
+pub mod limits;
+pub mod path;
+pub mod random;
+pub mod variants;
+pub mod within;

@@ -1,0 +1,163 @@
+//! Check, evaluate, cell and compare, with the sheet, on top of the unrolled matrices.
+
+use super::dense::{extension, extension_of_places, unroll, unroll_places};
+use super::field::{bits, P};
+use super::key::{counts, read, Body, Key};
+use super::pass::factors::Factors;
+use super::pass::{self, Weights};
+use super::{refuse, CompareRefusal, Counts, Refusal};
+
+/// The greatest number of additions for which a key is unrolled into whole matrices.
+const MOST_ADDITIONS: usize = 60_000;
+/// The greatest number of cells of one array for which a key is unrolled into places.
+const MOST_PLACES: usize = 1_500;
+
+/// The counts of an accepted key, or the first of refusals 1 to 13.
+pub fn check(bytes: &[u8]) -> Result<Counts, Refusal> {
+    Ok(counts(&read(bytes)?))
+}
+
+/// Every array's values at a point that fits the key. They come from the whole matrices where
+/// those are small, else from the places that hold something, else from the pass.
+pub fn values(bytes: &[u8], key: &Key, rows: &[u32], columns: &[u32]) -> Vec<[u32; 3]> {
+    if additions(key).is_some_and(|additions| additions <= MOST_ADDITIONS) {
+        let matrices = unroll(key);
+        let values = matrices.iter().map(|one| extension(one, rows, columns));
+        return values.collect();
+    }
+    if let Some(unrolled) = unroll_places(key, MOST_PLACES) {
+        let values = unrolled.iter().zip(&key.arrays).map(|(places, array)| {
+            let rows = &rows[..array.row_bits as usize];
+            let columns = &columns[..array.column_bits as usize];
+            extension_of_places(places, rows, columns)
+        });
+        return values.collect();
+    }
+    pass_values::<Factors>(bytes, key, rows, columns)
+}
+
+/// Every array's values by the pass.
+pub fn pass_values<W: Weights>(
+    bytes: &[u8],
+    key: &Key,
+    rows: &[u32],
+    columns: &[u32],
+) -> Vec<[u32; 3]> {
+    let mut sheet = vec![0; 3 * key.arrays.len()];
+    let answer = pass::evaluate::<W>(bytes, rows, columns, &mut sheet);
+    answer.expect("the point fits the key");
+    let triples = sheet.chunks_exact(3).map(|one| [one[0], one[1], one[2]]);
+    triples.collect()
+}
+
+/// How many places and additions the whole matrices take; none where one has over 2^12 places.
+fn additions(key: &Key) -> Option<usize> {
+    let mut total = 0;
+    for array in &key.arrays {
+        if array.row_bits + array.column_bits > 12 {
+            return None;
+        }
+        total += 1 << (array.row_bits + array.column_bits);
+        if let Body::Recursive(calls) = &array.body {
+            for call in calls {
+                let called = &key.arrays[usize::from(call.id)];
+                total += 1 << (called.row_bits + called.column_bits);
+            }
+        }
+    }
+    Some(total)
+}
+
+/// Evaluate: check, 21, 22, 23, 31; every array's values on the sheet, array i's at 3i.
+pub fn evaluate(
+    bytes: &[u8],
+    rows: &[u32],
+    columns: &[u32],
+    sheet: &mut [u32],
+) -> Result<[u32; 3], Refusal> {
+    let key = read(bytes)?;
+    judge_point(&key, rows, columns)?;
+    judge_sheet(key.arrays.len(), sheet)?;
+    Ok(write(&values(bytes, &key, rows, columns), sheet))
+}
+
+/// Cell: check, 24, 31; the dense values at a row and a column, and the sheet as after evaluate
+/// at their bits.
+pub fn cell(bytes: &[u8], row: u32, column: u32, sheet: &mut [u32]) -> Result<[u32; 3], Refusal> {
+    let key = read(bytes)?;
+    if u64::from(row) >= 1 << key.rows {
+        return refuse(24, 0);
+    }
+    if u64::from(column) >= 1 << key.columns {
+        return refuse(24, 1);
+    }
+    judge_sheet(key.arrays.len(), sheet)?;
+    let rows = bits(row, key.rows);
+    let columns = bits(column, key.columns);
+    let answer = write(&values(bytes, &key, &rows, &columns), sheet);
+    Ok(dense_values(&key, row, column).unwrap_or(answer))
+}
+
+/// The last array's dense values at a row and a column, where the key is small enough to unroll.
+fn dense_values(key: &Key, row: u32, column: u32) -> Option<[u32; 3]> {
+    if additions(key).is_some_and(|additions| additions <= MOST_ADDITIONS) {
+        return unroll(key).last().map(|last| last.at(row, column));
+    }
+    let unrolled = unroll_places(key, MOST_PLACES)?;
+    let places = unrolled.last()?;
+    Some(places.get(&(row, column)).copied().unwrap_or_default())
+}
+
+/// Compare: the first key, the second key, 35, 21, 22, 23, 31 for the key with more arrays;
+/// whether all three values agree, and the sheet as after evaluating the first and the second.
+pub fn compare(
+    first: &[u8],
+    second: &[u8],
+    rows: &[u32],
+    columns: &[u32],
+    sheet: &mut [u32],
+) -> Result<bool, CompareRefusal> {
+    let of = |key| move |refusal| CompareRefusal { key, refusal };
+    let one = read(first).map_err(of(1))?;
+    let other = read(second).map_err(of(2))?;
+    if (one.rows, one.columns) != (other.rows, other.columns) {
+        return refuse(35, 0).map_err(of(0));
+    }
+    judge_point(&one, rows, columns).map_err(of(0))?;
+    let arrays = one.arrays.len().max(other.arrays.len());
+    judge_sheet(arrays, sheet).map_err(of(0))?;
+    let of_first = write(&values(first, &one, rows, columns), sheet);
+    let of_second = write(&values(second, &other, rows, columns), sheet);
+    Ok(of_first == of_second)
+}
+
+/// Refusals 21, 22 and 23.
+fn judge_point(key: &Key, rows: &[u32], columns: &[u32]) -> Result<(), Refusal> {
+    if rows.len() != key.rows as usize {
+        return refuse(21, rows.len());
+    }
+    if columns.len() != key.columns as usize {
+        return refuse(22, columns.len());
+    }
+    let mut coordinates = rows.iter().chain(columns);
+    match coordinates.position(|&coordinate| coordinate >= P) {
+        Some(index) => refuse(23, index),
+        None => Ok(()),
+    }
+}
+
+/// Refusal 31.
+fn judge_sheet(arrays: usize, sheet: &[u32]) -> Result<(), Refusal> {
+    if sheet.len() < 3 * arrays {
+        return refuse(31, 3 * arrays);
+    }
+    Ok(())
+}
+
+/// Writes every array's values on the sheet and answers the last array's.
+fn write(values: &[[u32; 3]], sheet: &mut [u32]) -> [u32; 3] {
+    for (i, triple) in values.iter().enumerate() {
+        sheet[3 * i..3 * i + 3].copy_from_slice(triple);
+    }
+    *values.last().expect("an accepted key has an array")
+}

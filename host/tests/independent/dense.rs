@@ -1,0 +1,146 @@
+//! The dense form of every array, and multilinear extensions as sums over all rows and columns.
+
+use std::collections::HashMap;
+
+use super::field::{eq, product, sum};
+use super::key::{Array, Body, Key};
+
+/// An array's A, B and C at every place that holds something; they are zero elsewhere.
+pub type Places = HashMap<(u32, u32), [u32; 3]>;
+
+/// An array's A, B and C at every row and column, row by row.
+#[derive(Debug, Clone, PartialEq, Eq)]
+pub struct Matrix {
+    pub row_bits: u32,
+    pub column_bits: u32,
+    pub places: Vec<[u32; 3]>,
+}
+
+impl Matrix {
+    /// A, B and C at a row and a column.
+    pub fn at(&self, row: u32, column: u32) -> [u32; 3] {
+        self.places[self.index(row, column)]
+    }
+
+    /// Where the values of a row and a column stand in the list.
+    fn index(&self, row: u32, column: u32) -> usize {
+        ((row as usize) << self.column_bits) + column as usize
+    }
+}
+
+/// Adds three values to three, each modulo p.
+fn add(to: &mut [u32; 3], values: [u32; 3]) {
+    for (to, value) in to.iter_mut().zip(values) {
+        *to = sum(*to, value);
+    }
+}
+
+/// The dense form of every array, in the order of the key.
+pub fn unroll(key: &Key) -> Vec<Matrix> {
+    let mut matrices: Vec<Matrix> = Vec::new();
+    for array in &key.arrays {
+        let matrix = unroll_array(array, &matrices);
+        matrices.push(matrix);
+    }
+    matrices
+}
+
+/// The dense form of one array, from those of the earlier ones.
+fn unroll_array(array: &Array, earlier: &[Matrix]) -> Matrix {
+    let mut matrix = Matrix {
+        row_bits: array.row_bits,
+        column_bits: array.column_bits,
+        places: vec![[0; 3]; 1 << (array.row_bits + array.column_bits)],
+    };
+    match &array.body {
+        Body::Sparse(cells) => {
+            for cell in cells {
+                let index = matrix.index(cell.row, cell.column);
+                add(&mut matrix.places[index], cell.values);
+            }
+        }
+        Body::Recursive(calls) => {
+            for call in calls {
+                let called = &earlier[usize::from(call.id)];
+                for row in 0..1 << called.row_bits {
+                    for column in 0..1 << called.column_bits {
+                        let index = matrix.index(
+                            row + (call.row << called.row_bits),
+                            column + (call.column << called.column_bits),
+                        );
+                        add(&mut matrix.places[index], called.at(row, column));
+                    }
+                }
+            }
+        }
+    }
+    matrix
+}
+
+/// The multilinear extension of a matrix at the first k and the first k' coordinates of a point:
+/// the sum over all rows and columns.
+pub fn extension(matrix: &Matrix, rows: &[u32], columns: &[u32]) -> [u32; 3] {
+    let rows = &rows[..matrix.row_bits as usize];
+    let columns = &columns[..matrix.column_bits as usize];
+    let column_weights: Vec<u32> = (0..1 << matrix.column_bits)
+        .map(|column| eq(column, columns))
+        .collect();
+    let mut total = [0; 3];
+    for row in 0..1 << matrix.row_bits {
+        let row_weight = eq(row, rows);
+        for column in 0..1 << matrix.column_bits {
+            let weight = product(row_weight, column_weights[column as usize]);
+            let values = matrix.at(row, column);
+            add(&mut total, values.map(|value| product(value, weight)));
+        }
+    }
+    total
+}
+
+/// The dense form of every array at the places that hold something, for keys with too many rows
+/// or columns for a matrix; none where an array has more than `most` cells once unrolled.
+pub fn unroll_places(key: &Key, most: usize) -> Option<Vec<Places>> {
+    let mut unrolled: Vec<Places> = Vec::new();
+    for array in &key.arrays {
+        let mut places = Places::new();
+        let mut count = 0;
+        match &array.body {
+            Body::Sparse(cells) => {
+                count += cells.len();
+                for cell in cells {
+                    let place = places.entry((cell.row, cell.column)).or_default();
+                    add(place, cell.values);
+                }
+            }
+            Body::Recursive(calls) => {
+                for call in calls {
+                    let id = usize::from(call.id);
+                    count += unrolled[id].len() + 1;
+                    if count > most {
+                        return None;
+                    }
+                    for (&(row, column), &values) in &unrolled[id] {
+                        let row = row + (call.row << key.arrays[id].row_bits);
+                        let column = column + (call.column << key.arrays[id].column_bits);
+                        add(places.entry((row, column)).or_default(), values);
+                    }
+                }
+            }
+        }
+        if count > most {
+            return None;
+        }
+        unrolled.push(places);
+    }
+    Some(unrolled)
+}
+
+/// The multilinear extension from the places that hold something.
+pub fn extension_of_places(places: &Places, rows: &[u32], columns: &[u32]) -> [u32; 3] {
+    let mut total = [0; 3];
+    for (&(row, column), &values) in places {
+        let weight = product(eq(row, rows), eq(column, columns));
+        add(&mut total, values.map(|value| product(value, weight)));
+    }
+    total
+}

@@ -1,0 +1,132 @@
+//! Check, evaluate and compare without unrolling, in one pass over the key's bytes, for keys too
+//! large to unroll and as the measure of the benchmark.
+//!
+//! By Lemma 2 of document 004 a cell adds its values, and a call the values of the array it calls,
+//! times eq of its bits. Every array's values stand on the sheet before a later array calls it.
+
+mod accept;
+pub mod factors;
+mod records;
+pub mod tables;
+
+use super::key::{self, MOST_ARRAYS};
+use super::{refuse, CompareRefusal, Counts, Refusal};
+use accept::accept;
+use records::write;
+
+/// The prime p.
+const P: u32 = 2_147_483_647;
+
+/// The row bits and the column bits of every array.
+type Shapes = [[u8; 2]; MOST_ARRAYS];
+
+/// A point made ready for weighing places: a way to multiply the factors of eq.
+pub trait Weights {
+    /// The point made ready.
+    fn new(rows: &[u32], columns: &[u32]) -> Self;
+
+    /// The weights of places, each a row and a column: bit 0 of each is paired with the coordinate
+    /// at `from`, and the last bit with the one before `to`, rows and columns apart.
+    fn weigh<const N: usize>(&self, places: [[u32; 2]; N], from: [u8; 2], to: [u8; 2]) -> [u32; N];
+}
+
+/// The counts of an accepted key, or the first of refusals 1 to 13.
+pub fn check(key: &[u8]) -> Result<Counts, Refusal> {
+    check_with(key, &mut [[0; 2]; MOST_ARRAYS])
+}
+
+/// The same, with the shapes of the key's arrays.
+fn check_with(key: &[u8], shapes: &mut Shapes) -> Result<Counts, Refusal> {
+    match accept(key, shapes) {
+        Some(counts) => Ok(counts),
+        None => Err(key::read(key).expect_err("a key that is not accepted is refused")),
+    }
+}
+
+/// Evaluate: check, 21, 22, 23, 31; every array's values on the sheet, array i's at 3i.
+pub fn evaluate<W: Weights>(
+    key: &[u8],
+    rows: &[u32],
+    columns: &[u32],
+    sheet: &mut [u32],
+) -> Result<[u32; 3], Refusal> {
+    let mut shapes = [[0; 2]; MOST_ARRAYS];
+    let counts = check_with(key, &mut shapes)?;
+    judge(counts, counts.arrays, rows, columns, sheet)?;
+    Ok(write(key, &shapes, &W::new(rows, columns), sheet))
+}
+
+/// Compare: the first key, the second key, 35, 21, 22, 23, 31; whether all three values agree.
+pub fn compare<W: Weights>(
+    first: &[u8],
+    second: &[u8],
+    rows: &[u32],
+    columns: &[u32],
+    sheet: &mut [u32],
+) -> Result<bool, CompareRefusal> {
+    let of = |key| move |refusal| CompareRefusal { key, refusal };
+    let [mut shapes, mut other_shapes] = [[[0; 2]; MOST_ARRAYS]; 2];
+    let one = check_with(first, &mut shapes).map_err(of(1))?;
+    let other = check_with(second, &mut other_shapes).map_err(of(2))?;
+    if (one.rows, one.columns) != (other.rows, other.columns) {
+        return refuse(35, 0).map_err(of(0));
+    }
+    judge(one, one.arrays.max(other.arrays), rows, columns, sheet).map_err(of(0))?;
+    let weights = W::new(rows, columns);
+    let of_first = write(first, &shapes, &weights, sheet);
+    let of_second = write(second, &other_shapes, &weights, sheet);
+    Ok(of_first == of_second)
+}
+
+/// Refusals 21, 22, 23, and 31 for this number of arrays.
+fn judge(
+    counts: Counts,
+    arrays: u32,
+    rows: &[u32],
+    columns: &[u32],
+    sheet: &[u32],
+) -> Result<(), Refusal> {
+    if rows.len() != counts.rows as usize {
+        return refuse(21, rows.len());
+    }
+    if columns.len() != counts.columns as usize {
+        return refuse(22, columns.len());
+    }
+    let mut coordinates = rows.iter().chain(columns);
+    if let Some(index) = coordinates.position(|&coordinate| coordinate >= P) {
+        return refuse(23, index);
+    }
+    if sheet.len() < 3 * arrays as usize {
+        return refuse(31, 3 * arrays as usize);
+    }
+    Ok(())
+}
+
+/// The product modulo p of two numbers below p: 2^31 is 1 modulo p, so the high bits are added to
+/// the low ones.
+#[inline(always)]
+fn product(a: u32, b: u32) -> u32 {
+    let folded = fold(u64::from(a) * u64::from(b)) as u32;
+    match folded.overflowing_sub(P) {
+        (_, true) => folded,
+        (less, false) => less,
+    }
+}
+
+/// A number below 2^32 that equals a product of two numbers below p modulo p.
+#[inline(always)]
+fn fold(product: u64) -> u64 {
+    (product & u64::from(P)) + (product >> 31)
+}
+
+/// The number in four bytes of a record.
+#[inline(always)]
+fn word<const N: usize>(record: &[u8; N], at: usize) -> u32 {
+    u32::from_le_bytes([record[at], record[at + 1], record[at + 2], record[at + 3]])
+}
+
+/// The id of a call.
+#[inline(always)]
+fn id(record: &[u8; 11]) -> usize {
+    u16::from_le_bytes([record[1], record[2]]).into()
+}

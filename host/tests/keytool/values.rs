@@ -1,0 +1,86 @@
+//! The commands that answer values of a key: evaluate and cell.
+
+use crate::keys::{cell, head, sample, sparse};
+use crate::support::Folder;
+
+#[test]
+fn evaluate_prints_the_point_and_every_array() {
+    let folder = Folder::new(
+        "evaluate",
+        &[("sample", &sample()), ("point", b"rows 3\ncolumns 4\n")],
+    );
+    let wanted =
+        "rows 3\ncolumns 4\n0 20 28 0\n1 2147483567 2147483535 0\nA 2147483567 B 2147483535 C 0\n";
+    folder
+        .run(&["evaluate", "sample", "--point", "point"])
+        .answers(0, wanted);
+}
+
+#[test]
+fn evaluate_prints_the_refusal() {
+    let folder = Folder::new(
+        "evaluate-refused",
+        &[
+            ("sample", &sample()),
+            ("unknown", b"key"),
+            ("rows", b"rows\ncolumns 1 2\n"),
+            ("columns", b"rows 1\ncolumns 1 2\n"),
+            ("prime", b"rows 1\ncolumns 2147483647\n"),
+        ],
+    );
+    for (key, point, refusal) in [
+        ("unknown", "rows", "refused 3 at 0: unknown kind\n"),
+        ("sample", "rows", "refused 21 at 0: row count not n\n"),
+        (
+            "sample",
+            "columns",
+            "refused 22 at 2: column count not n'\n",
+        ),
+        ("sample", "prime", "refused 23 at 1: coordinate p or more\n"),
+    ] {
+        let ran = folder.run(&["evaluate", key, "--point", point]);
+        ran.answers(2, refusal);
+    }
+    let ran = folder.run(&["evaluate", "unknown"]);
+    ran.answers(2, "refused 3 at 0: unknown kind\n");
+}
+
+#[test]
+fn a_printed_point_can_be_used_again() {
+    let wide = [head(30, 30), sparse(30, 30), cell(5, 7, 1, 2, 3), vec![6]].concat();
+    let folder = Folder::new("again", &[("sample", &sample()), ("wide", &wide)]);
+    for (key, coordinates) in [("sample", 2), ("wide", 60)] {
+        let first = folder.run(&["evaluate", key, "--random"]);
+        let point: Vec<_> = first.out.lines().take(2).collect();
+        let words = point.iter().flat_map(|line| line.split(' ').skip(1));
+        assert_eq!(words.count(), coordinates, "{}", first.out);
+        folder.write("point", point.join("\n").as_bytes());
+        folder
+            .run(&["evaluate", "--point", "point", key])
+            .answers(0, &first.out);
+        assert_ne!(folder.run(&["evaluate", key]), first);
+    }
+}
+
+#[test]
+fn cell_prints_the_values() {
+    let folder = Folder::new("cell", &[("sample", &sample()), ("unknown", b"key")]);
+    for (row, column, status, wanted) in [
+        ("0", "1", 0, "A 10 B 14 C 0\n"),
+        ("1", "1", 0, "A 0 B 0 C 0\n"),
+        ("2", "9", 2, "refused 24 at 0: row outside the last array\n"),
+        (
+            "1",
+            "4294967295",
+            2,
+            "refused 24 at 1: column outside the last array\n",
+        ),
+    ] {
+        folder
+            .run(&["cell", "sample", row, column])
+            .answers(status, wanted);
+    }
+    folder
+        .run(&["cell", "unknown", "0", "0"])
+        .answers(2, "refused 3 at 0: unknown kind\n");
+}

@@ -1,0 +1,144 @@
+//! Keys written out record by record, and short calls for the written cases.
+
+// Each test program uses a part of this module.
+#![allow(dead_code)]
+
+pub mod closed;
+
+use crate::archive;
+use crate::independent::record::{bytes, Call, Cell, Record};
+use crate::independent::{CompareRefusal, Counts, Refusal};
+
+/// The prime p.
+pub const P: u32 = morgana::P;
+
+/// A cell.
+pub fn cell(row: u32, column: u32, values: [u32; 3]) -> Record {
+    Record::Cell(Cell {
+        row,
+        column,
+        values,
+    })
+}
+
+/// A call.
+pub fn call(id: u16, row: u32, column: u32) -> Record {
+    Record::Call(Call { id, row, column })
+}
+
+/// The bytes of a head, these records and an end.
+pub fn key(rows: u8, columns: u8, body: &[Record]) -> Vec<u8> {
+    let mut records = vec![Record::Head(rows, columns)];
+    records.extend_from_slice(body);
+    records.push(Record::End);
+    bytes(&records)
+}
+
+/// The key of the request's keysheet input.
+pub fn sample() -> Vec<u8> {
+    key(
+        1,
+        1,
+        &[
+            Record::Sparse(0, 1),
+            cell(0, 1, [5, 7, 0]),
+            Record::Recursive(1, 1),
+            call(0, 0, 0),
+            call(0, 0, 0),
+        ],
+    )
+}
+
+/// What check answers, held through the raw call too.
+pub fn check(key: &[u8]) -> Result<Counts, Refusal> {
+    let answer = archive::check(key);
+    assert_eq!(archive::raw_check(key), archive::check_reply(answer));
+    answer
+}
+
+/// Asserts that check accepts a key with these counts of arrays, cells and calls.
+pub fn accepts(key: &[u8], arrays: u32, cells: u32, calls: u32) {
+    let counts = check(key).unwrap_or_else(|refusal| panic!("refused: {refusal:?}"));
+    assert_eq!(
+        [counts.arrays, counts.cells, counts.calls],
+        [arrays, cells, calls]
+    );
+    assert_eq!(
+        [counts.rows, counts.columns],
+        [key[1].into(), key[2].into()]
+    );
+}
+
+/// Asserts that check, evaluate, cell and compare refuse a key alike and leave the sheet as it was.
+pub fn refuses(key: &[u8], number: u32, place: u64) {
+    let refusal = Refusal { number, place };
+    assert_eq!(
+        check(key),
+        Err(refusal),
+        "key {:?}",
+        &key[..key.len().min(99)]
+    );
+    let mut sheet = [7; 12];
+    assert_eq!(evaluate(key, &[P], &[], &mut sheet), Err(refusal));
+    let got = archive::cell(key, u32::MAX, u32::MAX, &mut sheet);
+    assert_eq!(got, Err(refusal));
+    let of = |key| Err(CompareRefusal { key, refusal });
+    let sample = sample();
+    let got = archive::compare(key, &sample, &[], &[P], &mut sheet);
+    assert_eq!(got, of(1));
+    let got = archive::compare(&sample, key, &[], &[P], &mut sheet);
+    assert_eq!(got, of(2));
+    assert_eq!(sheet, [7; 12]);
+}
+
+/// What evaluate answers, held through the raw call too.
+pub fn evaluate(
+    key: &[u8],
+    rows: &[u32],
+    columns: &[u32],
+    sheet: &mut [u32],
+) -> Result<[u32; 3], Refusal> {
+    let mut other = sheet.to_vec();
+    let answer = archive::evaluate(key, rows, columns, sheet);
+    let reply = archive::raw_evaluate(key, rows, columns, &mut other);
+    assert_eq!(reply, archive::evaluate_reply(answer));
+    assert_eq!(sheet, other);
+    answer
+}
+
+/// What evaluate answers on a sheet that is long enough.
+pub fn values(key: &[u8], rows: &[u32], columns: &[u32]) -> Result<[u32; 3], Refusal> {
+    evaluate(key, rows, columns, &mut [9; 3 * 1_024])
+}
+
+/// What cell answers on a sheet that is long enough, held through the raw call too.
+pub fn dense(key: &[u8], row: u32, column: u32) -> Result<[u32; 3], Refusal> {
+    let mut sheet = [9; 3 * 1_024];
+    let mut other = sheet;
+    let answer = archive::cell(key, row, column, &mut sheet);
+    let reply = archive::raw_cell(key, row, column, &mut other);
+    assert_eq!(reply, archive::evaluate_reply(answer));
+    assert_eq!(sheet, other);
+    answer
+}
+
+/// What compare answers, held through the raw call too.
+pub fn compare(
+    first: &[u8],
+    second: &[u8],
+    rows: &[u32],
+    columns: &[u32],
+    sheet: &mut [u32],
+) -> Result<bool, CompareRefusal> {
+    let mut other = sheet.to_vec();
+    let answer = archive::compare(first, second, rows, columns, sheet);
+    let reply = archive::raw_compare(first, second, rows, columns, &mut other);
+    assert_eq!(reply, archive::compare_reply(answer));
+    assert_eq!(sheet, other);
+    answer
+}
+
+/// The refusal with a number, at a place.
+pub fn refusal<T>(number: u32, place: u64) -> Result<T, Refusal> {
+    Err(Refusal { number, place })
+}
