@@ -1,4 +1,6 @@
+pub mod Cutting
 pub mod Weighing
+pub mod Tabulating
 pub mod FirstOver
 pub mod Judgements
 pub mod Filling

@@ -1,5 +1,5 @@
 -- A turn of the loop that adds an array's entries up, by what is taken at its offset.
-use Prim.Native.Nat.{ℕ, _+_, _≤_, _<_}
+use Prim.Native.Nat.{ℕ, min, _+_, _≤_, _<_}
 use mathlib.Core.List.{List}
 use mathlib.Core.Path.{_≡_, sym, ap, subst, _∙_}
 use native.Mathlib.Omega.{arith}
@@ -13,11 +13,12 @@ use Rattle.records.proofs.Answers.{taken-injective, record-same, record-not-ref
 use Rattle.records.proofs.Taking.{given-onward}
 use Rattle.arrays.specs.Arrays.{Values, Array, arrayAt}
 use Rattle.arrays.specs.Placing.{blocks}
-use Rattle.arrays.specs.WellFormed.{ArrayFits}
+use Rattle.arrays.specs.WellFormed.{ArrayFits, WellFormed}
 use Rattle.key.specs.KeyArrays.{keyArrays}
 use Rattle.key.proofs.Acceptance.{acceptance}
-use Rattle.evaluate.specs.Inner.{Coordinates, AtPoint, entryAdded, EntryFits}
+use Rattle.evaluate.specs.Inner.{Coordinates, Tabled, AtPoint, entryAdded, EntryFits}
 use Rattle.evaluate.proofs.Adding.{Adding, Next, adding-next}
+use Rattle.evaluate.proofs.Tabulating.{tabled-fewer}
 
 -- coordinates for arrays of n bits are coordinates for one of fewer
 fewer : (n k : ℕ) (numbers : List ℕ) → k ≤ n → Coordinates n numbers → Coordinates k numbers
@@ -25,14 +26,29 @@ fewer n k numbers l given-n = record { enough = omega (arith, given-n .enough); 
 
 -- an array has no more bits than the head
 module _ (key rows columns : List ℕ) (point : AtPoint key rows columns) (i : ℕ) (l : i < length (keyArrays key)) where
+  accepted : WellFormed blocks blocks (point .counts .rows) (point .counts .columns) (keyArrays key)
+  accepted = acceptance key (point .counts) (point .accepted) .well-formed
+
   fits : ArrayFits blocks blocks (keyArrays key) (point .counts .rows) (point .counts .columns) i (arrayAt (keyArrays key) i)
-  fits = acceptance key (point .counts) (point .accepted) .well-formed .arrays-fit i l
+  fits = accepted .arrays-fit i l
 
   pub rows-enough : Coordinates (arrayAt (keyArrays key) i .row-bits) rows
   rows-enough = fewer (point .counts .rows) _ rows (fits .rows-at-most) (point .rows-given)
 
   pub columns-enough : Coordinates (arrayAt (keyArrays key) i .column-bits) columns
   columns-enough = fewer (point .counts .columns) _ columns (fits .columns-at-most) (point .columns-given)
+
+  pub rows-tabled : (table : List ℕ) → Tabled (min 30 (length rows)) rows table →
+      Tabled (arrayAt (keyArrays key) i .row-bits) rows table
+  rows-tabled table tabled =
+      tabled-fewer (min 30 (length rows)) _ rows table
+      (omega (arith, fits .rows-at-most, accepted .rows-at-most-30, point .rows-given .enough)) tabled
+
+  pub columns-tabled : (table : List ℕ) → Tabled (min 30 (length columns)) columns table →
+      Tabled (arrayAt (keyArrays key) i .column-bits) columns table
+  columns-tabled table tabled =
+      tabled-fewer (min 30 (length columns)) _ columns table
+      (omega (arith, fits .columns-at-most, accepted .columns-at-most-30, point .columns-given .enough)) tabled
 
 module _ (key rows columns sheet : List ℕ) (i to : ℕ) (sum : Values) (at : ℕ) (l : at < to)
     (adding : Adding key rows columns sheet i to sum at) (taken : Taken) (answer : takenOutcome taken ≡ takenAt key at) where

@@ -1,7 +1,9 @@
 -- What the contracts of inner functions cite. No public promise rests on it.
-use Prim.Native.Nat.{ℕ, _+_, _*_, _≤_, _<_}
+use Prim.Native.Nat.{ℕ, _+_, _*_, _%_, _≤_, _<_}
+use mathlib.Core.Bool.{cond}
 use mathlib.Core.List.{List}
 use mathlib.Core.Path.{_≡_}
+use lib.Dec.{eqb}
 use lib.ListN.{length, getD, take}
 use lib.Seq.{slice}
 use Rattle.refusal.specs.Outcome.{given}
@@ -38,6 +40,17 @@ pub record ValuesBelow (values : Values) : Type 0 where
 pub record Coordinates (n : ℕ) (numbers : List ℕ) : Type 0 where
   pub enough : n ≤ length numbers
   pub below : Below p numbers
+
+-- the factor of a coordinate in a weight for a bit
+abbrev pub factorOf : ℕ → ℕ → ℕ
+factorOf bit r = cond (eqb bit 1) r (fp .sub (fp .unit) r)
+
+-- a table for n coordinates, at most 30, which is empty or full: at 8·i + a % 8 stands the weight of a over the coordinates i,
+-- i + 1 and i + 2
+pub record Tabled (n : ℕ) (numbers table : List ℕ) : Type 0 where
+  pub few : n ≤ 30
+  pub room : 0 < length table → 8 * n ≤ length table + 16
+  pub holds : 0 < length table → (i a : ℕ) → i + 3 ≤ n → getD table (8 * i + a % 8) 0 ≡ weight fp a (slice i (i + 3) numbers)
 
 -- an accepted key, with a table whose first places hold the offsets of its arrays
 pub record Indexed (key starts : List ℕ) : Type 0 where

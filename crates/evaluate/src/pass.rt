@@ -1,13 +1,14 @@
 // One pass over the arrays of an accepted key (004, Lemma 2).
 use crate::Values;
 use crate::array;
+use crate::point;
 use crate::sheet;
 ghost use mathlib.Core.Path.{_≡_};
-ghost use Prim.Native.Nat.{_*_, _≤_};
+ghost use Prim.Native.Nat.{min, _*_, _≤_};
 ghost use lib.ListN.{length};
 ghost use Rattle.key.specs.KeyArrays.{keyArrays};
 ghost use Rattle.evaluate.specs.Evaluate.{valuesIn, lastValues, valuesAt};
-ghost use Rattle.evaluate.specs.Inner.{Indexed, AtPoint, passedValues};
+ghost use Rattle.evaluate.specs.Inner.{Indexed, AtPoint, Tabled, passedValues};
 ghost use Rattle.evaluate.specs.Sheet.{wordsOf, laid};
 
 // Writes every array's values on the sheet and answers those of the last: the extensions of their dense matrices. Inner: the key is
@@ -27,20 +28,71 @@ pub fn run(
     ensures answer { λ r. ⌜ valuesIn r ≡ lastValues (now (key .entry)) (now (rows .entry)) (now (columns .entry)) ⌝ }
     ensures sheet { λ _. ⌜ now (sheet .exit) ≡ laid 0 (λ i. wordsOf (valuesAt (keyArrays (now (key .entry))) (now (rows .entry)) (now (columns .entry)) i)) arrays (now (sheet .entry)) ⌝ }
 {
-    pass(key, starts, arrays, rows, columns, sheet);
+    fill(key, starts, arrays, rows, columns, sheet);
     sheet::values(sheet, arrays - 1)
 }
 
-// Writes every array's values on the sheet, each from those of the arrays before it. Inner: as for `run`.
-fn pass(key: &[u8], starts: &[u32], arrays: usize, rows: &[u32], columns: &[u32], sheet: &mut [u32])
+// Writes every array's values on the sheet. Tables of the point are made where the key is long enough for them to save more than
+// they cost. Inner: as for `run`.
+fn fill(key: &[u8], starts: &[u32], arrays: usize, rows: &[u32], columns: &[u32], sheet: &mut [u32])
     requires { ⌜ Indexed (now key) (now starts) ⌝ }
     requires { ⌜ arrays ≡ length (keyArrays (now key)) ⌝ }
     requires { ⌜ AtPoint (now key) (now rows) (now columns) ⌝ }
     requires { ⌜ 3 * arrays ≤ length (now sheet) ⌝ }
     ensures { λ _. ⌜ now (sheet .exit) ≡ laid 0 (λ i. wordsOf (passedValues (keyArrays (now (key .entry))) (now (rows .entry)) (now (columns .entry)) i)) arrays (now (sheet .entry)) ⌝ }
 {
+    if key.len() < 512 {
+        let none = &rows[..0];
+        return pass(key, starts, arrays, rows, columns, none, none, sheet);
+    }
+    let mut rowwise = [0u32; 224];
+    let mut columnwise = [0u32; 224];
+    point::tabulate(rows, &mut rowwise);
+    point::tabulate(columns, &mut columnwise);
+    pass(
+        key,
+        starts,
+        arrays,
+        rows,
+        columns,
+        &rowwise,
+        &columnwise,
+        sheet,
+    )
+}
+
+// Writes every array's values on the sheet, each from those of the arrays before it. Inner: as for `run`, and the
+// tables are the point's.
+fn pass(
+    key: &[u8],
+    starts: &[u32],
+    arrays: usize,
+    rows: &[u32],
+    columns: &[u32],
+    rowwise: &[u32],
+    columnwise: &[u32],
+    sheet: &mut [u32],
+)
+    requires { ⌜ Indexed (now key) (now starts) ⌝ }
+    requires { ⌜ arrays ≡ length (keyArrays (now key)) ⌝ }
+    requires { ⌜ AtPoint (now key) (now rows) (now columns) ⌝ }
+    requires { ⌜ Tabled (min 30 (length (now rows))) (now rows) (now rowwise) ⌝ }
+    requires { ⌜ Tabled (min 30 (length (now columns))) (now columns) (now columnwise) ⌝ }
+    requires { ⌜ 3 * arrays ≤ length (now sheet) ⌝ }
+    ensures { λ _. ⌜ now (sheet .exit) ≡ laid 0 (λ i. wordsOf (passedValues (keyArrays (now (key .entry))) (now (rows .entry)) (now (columns .entry)) i)) arrays (now (sheet .entry)) ⌝ }
+{
     for i in 0..arrays {
-        let values = array::values(key, starts, arrays, i, rows, columns, sheet);
+        let values = array::values(
+            key,
+            starts,
+            arrays,
+            i,
+            rows,
+            columns,
+            rowwise,
+            columnwise,
+            sheet,
+        );
         sheet::put(sheet, i, values);
     }
 }

@@ -1,63 +1,54 @@
-use mathlib.Core.Path.{_∙_}
+-- `evaluate::array::shape` meets its contract: it reads the two bytes behind the opening's kind.
+use Prim.Native.Nat.{_+_, _≤_}
 use native.Mathlib.Omega.{arith}
 use denote.Ref.{now}
 use borrow.Author.Needs.{needs}
-use Rattle.evaluate.proofs.Indexing.{opening-inside, opening-not-refused, shape-taken}
+use lib.ListN.{length, getD}
+use Rattle.evaluate.proofs.Indexing.{opening-inside, opening-bytes}
 use Rattle.evaluate.proofs.array.shape.Statement.{statement}
 use Rattle.evaluate.proofs.array.shape.Tie as tie
 
--- `evaluate::array::shape` meets its contract: the opening is taken at its offset.
+-- the opening lies in the key
+inside : (a : tie.Start) →
+    (getD (now (a .args .starts)) (a .args .i) 0 + 3 ≤ length (now (a .args .key))) × (length (now (a .args .key)) ≤ 65536)
+inside a = opening-inside (now (a .args .key)) (now (a .args .starts)) (a .pre .0) (a .args .i) (a .pre .1)
 
-mul-take : tie.Need-mul-take
-mul-take c = search needs
+mul-at : tie.Need-mul-at
+mul-at c = search needs
 
-shared-slice-read-take : tie.Need-shared-slice-read-take
-shared-slice-read-take c = search needs
+shared-slice-read-at : tie.Need-shared-slice-read-at
+shared-slice-read-at c = search needs
 
-cast-take : tie.Need-cast-take
-cast-take c =
-    let a = c .before .before .before in
-    record {
-      fits = omega (arith, opening-inside (now (a .args .key)) (now (a .args .starts)) (a .pre .0) (a .args .i) (a .pre .1));
-    }
+cast-at : tie.Need-cast-at
+cast-at c = record { fits = omega (arith, inside (c .before)) }
 
-take-requires : tie.Need-take-requires
-take-requires c κs = search needs
+add-t5 : tie.Need-add-t5
+add-t5 c = record { fits = omega (arith, inside (c .before)) }
 
-enum-known-taken : tie.Need-enum-known-taken
-enum-known-taken c = search needs
+shared-slice-read-t9 : tie.Need-shared-slice-read-t9
+shared-slice-read-t9 c = omega (arith, inside (c .before .before))
 
-shape-in-requires : tie.Need-shape-in-requires
-shape-in-requires c κs = search needs
+add-t10 : tie.Need-add-t10
+add-t10 c = record { fits = omega (arith, inside (c .before .before)) }
 
-enum-told : tie.Need-enum-told
-enum-told c = search needs
+shared-slice-read-t12 : tie.Need-shared-slice-read-t12
+shared-slice-read-t12 c = omega (arith, inside (c .before .before .before))
 
 returns : tie.Need-returns
 returns c =
-    let a = c .before .before .before .before .before .before .before .before in
-    c .shape-in .ensures
-    ∙ shape-taken (now (a .args .key)) (now (a .args .starts)) (a .pre .0) (a .args .i) (a .pre .1)
-    (c .before .before .before .before .take .result) (c .before .before .before .before .take .ensures .0) _ _
-    (c .before .before .taken .given .1)
-
-returns-2 : tie.Need-returns-2
-returns-2 c =
-    let a = c .before .before .before .before .before .before in
-    absurd
-    (opening-not-refused (now (a .args .key)) (now (a .args .starts)) (a .pre .0) (a .args .i) (a .pre .1)
-    (c .before .before .take .result) (c .before .before .take .ensures .0) _ (c .enum-told .given .1))
+    let a = c .before .before .before in
+    let bytes = opening-bytes (now (a .args .key)) (now (a .args .starts)) (a .pre .0) (a .args .i) (a .pre .1) in
+    λ t. record { rows = bytes .0 t; columns = bytes .1 t }
 
 pub shape-spec : {M : Type 1} → statement M
 shape-spec =
     tie.close
     (tie.spec
-    mul-take
-    shared-slice-read-take
-    cast-take
-    take-requires
-    enum-known-taken
-    shape-in-requires
-    enum-told
-    returns
-    returns-2)
+    mul-at
+    shared-slice-read-at
+    cast-at
+    add-t5
+    shared-slice-read-t9
+    add-t10
+    shared-slice-read-t12
+    returns)

@@ -11,19 +11,20 @@ use Rattle.evaluate.specs.Inner.{shapeAt}
 use Rattle.evaluate.proofs.Added.{adding-done}
 use Rattle.evaluate.proofs.Adding.{Adding, adding-begun}
 use Rattle.evaluate.proofs.Indexing.{accepts, entries-run, opening-inside}
-use Rattle.evaluate.proofs.Turns.{rows-enough, columns-enough, never-refused, entry-fits, offset-onward, entry-added}
+use Rattle.evaluate.proofs.Turns.{rows-enough, columns-enough, rows-tabled, columns-tabled, never-refused, entry-fits, offset-onward, entry-added}
 use Rattle.evaluate.proofs.array.values.Statement.{statement}
 use Rattle.evaluate.proofs.array.values.Tie as tie
 
 abbrev Inv-loop : tie.InvT-loop
-Inv-loop key starts arrays i rows columns sheet own to sum₀ at₀ sum at = Adding key rows columns sheet i to (valuesIn sum) at
+Inv-loop key starts arrays i rows columns rowwise columnwise sheet own to sum₀ at₀ sum at =
+    Adding key rows columns sheet i to (valuesIn sum) at
 
 abbrev μ-loop : tie.MeasureT-loop
-μ-loop key starts arrays i rows columns sheet own to sum₀ at₀ sum at = to - at
+μ-loop key starts arrays i rows columns rowwise columnwise sheet own to sum₀ at₀ sum at = to - at
 
 -- before the first turn: the start, and an offset that fits
-abbrev begun : tie.After-shared-slice-known6 Inv-loop μ-loop → tie.Start Inv-loop μ-loop
-begun c = c .before .before .before .before .before .before .before .before .before .before .before
+abbrev begun : tie.After-shared-slice-known8 Inv-loop μ-loop → tie.Start Inv-loop μ-loop
+begun c = c .before .before .before .before .before .before .before .before .before .before .before .before .before
 
 offset-small : (a : tie.Start Inv-loop μ-loop) →
     (getD (now (a .args .starts)) (a .args .i) 0 + 3 ≤ length (now (a .args .key))) × (length (now (a .args .key)) ≤ 65536)
@@ -42,10 +43,10 @@ own : (c : tie.After-known-told Inv-loop μ-loop) →
 own c = turn c .before .before .before .before .before .before .shape .ensures
 
 shape-requires : tie.Need-shape-requires Inv-loop μ-loop
-shape-requires c κs = let a = c .before .before .before .before .before in (a .pre .0, omega (arith, a .pre .1))
+shape-requires c κs = let a = c .before .before .before .before .before .before .before in (a .pre .0, omega (arith, a .pre .1))
 
 behind-requires : tie.Need-behind-requires Inv-loop μ-loop
-behind-requires c κs = let a = c .before .before .before .before .before .before in (a .pre .0, (a .pre .1 .0, a .pre .1 .1 .0))
+behind-requires c κs = let a = c .before .before .before .before .before .before .before .before in (a .pre .0, (a .pre .1 .0, a .pre .1 .1 .0))
 
 zero-requires : tie.Need-zero-requires Inv-loop μ-loop
 zero-requires c κs = tt
@@ -111,7 +112,13 @@ add-requires c κs =
             rw (own c) (rows-enough _ _ _ point (a .args .i) inside),
             (
               rw (own c) (columns-enough _ _ _ point (a .args .i) inside),
-              (a .pre .1 .1 .1 .1, turn c .loop .inv .sum-below),
+              (
+                rw (own c) (rows-tabled _ _ _ point (a .args .i) inside _ (a .pre .1 .1 .1 .1 .0)),
+                (
+                  rw (own c) (columns-tabled _ _ _ point (a .args .i) inside _ (a .pre .1 .1 .1 .1 .1 .0)),
+                  (a .pre .1 .1 .1 .1 .1 .1, turn c .loop .inv .sum-below),
+                ),
+              ),
             ),
           ),
         ),

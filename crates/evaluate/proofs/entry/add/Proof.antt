@@ -17,15 +17,18 @@ enum-known-item c = search needs
 
 cell-requires : tie.Need-cell-requires
 cell-requires c κs =
-    let a = c .before .before .before .before .before .before .before .before in
-    (rw (c .before .item .given .1) at (a .pre .1 .1 .0), (a .pre .1 .1 .1 .0, (a .pre .1 .1 .1 .1 .0, a .pre .1 .1 .1 .1 .1 .1)))
+    let a = c .before .before .before .before .before .before .before .before .before .before in
+    let given = a .pre .1 .1 .1 in (
+      rw (c .before .item .given .1) at (a .pre .1 .1 .0),
+      (given .0, (given .1 .0, (given .1 .1 .0, (given .1 .1 .1 .0, given .1 .1 .1 .1 .1)))),
+    )
 
 enum-known-item-2 : tie.Need-enum-known-item-2
 enum-known-item-2 c = search needs
 
 call-requires : tie.Need-call-requires
 call-requires c κs =
-    let a = c .before .before .before .before .before .before .before .before in
+    let a = c .before .before .before .before .before .before .before .before .before .before in
     (a .pre .0, (a .pre .1 .0, (rw (c .before .item2 .given .1) at (a .pre .1 .1 .0), a .pre .1 .1 .1)))
 
 enum-told-4 : tie.Need-enum-told-4

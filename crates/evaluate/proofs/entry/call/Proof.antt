@@ -8,13 +8,14 @@ use Rattle.records.specs.declared.Shape.{Shape}
 use Rattle.multilinear.specs.Weight.{weight}
 use Rattle.evaluate.specs.Evaluate.{valuesIn}
 use Rattle.evaluate.specs.Inner.{addedTo}
-use Rattle.evaluate.proofs.Weighing.{weight-below, mul-below}
+use Rattle.evaluate.proofs.Cutting.{weight-below}
+use Rattle.evaluate.proofs.Weighing.{mul-below}
 use Rattle.evaluate.proofs.entry.call.Statement.{statement}
 use Rattle.evaluate.proofs.entry.call.Tie as tie
 
 -- the start, from the place where the call's id is known
 abbrev begun : tie.After-struct-known → tie.Start
-begun c = c .before .before .before .before .before .before
+begun c = c .before .before .before .before .before .before .before .before
 
 -- `evaluate::entry::call` meets its contract: its two factors are multiplied once for the three values.
 
@@ -27,8 +28,8 @@ shape-requires c κs = let a = begun c in (a .pre .0, omega (arith, a .pre .1 .0
 values-requires : tie.Need-values-requires
 values-requires c κs =
     let a = begun (c .before) in (
-      omega (arith, a .pre .1 .1 .0 .earlier, a .pre .1 .1 .1 .1 .1 .0 .room),
-      a .pre .1 .1 .1 .1 .1 .0 .below (a .args .c .id) (a .pre .1 .1 .0 .earlier),
+      omega (arith, a .pre .1 .1 .0 .earlier, a .pre .1 .1 .1 .1 .1 .1 .1 .0 .room),
+      a .pre .1 .1 .1 .1 .1 .1 .1 .0 .below (a .args .c .id) (a .pre .1 .1 .0 .earlier),
     )
 
 cast-weigh : tie.Need-cast-weigh
@@ -41,7 +42,8 @@ weigh-requires : tie.Need-weigh-requires
 weigh-requires c κs =
     let a = begun (c .before .before .before .before) in
     let called = c .before .before .before .shape .ensures in
-    (rw called (a .pre .1 .1 .0 .rows-fit), a .pre .1 .1 .1 .0 .enough, a .pre .1 .1 .1 .0 .below)
+    let side = a .pre .1 .1 .1 in
+    ((rw called (a .pre .1 .1 .0 .rows-fit), side .0 .enough, side .0 .below), side .1 .1 .0)
 
 cast-weigh-3 : tie.Need-cast-weigh-3
 cast-weigh-3 c = search needs
@@ -53,7 +55,8 @@ weigh-requires-2 : tie.Need-weigh-requires-2
 weigh-requires-2 c κs =
     let a = begun (c .before .before .before .before .before .before .before) in
     let called = c .before .before .before .before .before .before .shape .ensures in
-    (rw called (a .pre .1 .1 .0 .columns-fit), a .pre .1 .1 .1 .1 .0 .enough, a .pre .1 .1 .1 .1 .0 .below)
+    let side = a .pre .1 .1 .1 .1 in
+    ((rw called (a .pre .1 .1 .0 .columns-fit), side .0 .enough, side .0 .below), side .1 .1 .0)
 
 mul-requires : tie.Need-mul-requires
 mul-requires c κs = (rw (c .before .before .before .weigh .ensures) (weight-below _ _), rw (c .weigh2 .ensures) (weight-below _ _))
@@ -61,8 +64,8 @@ mul-requires c κs = (rw (c .before .before .before .weigh .ensures) (weight-bel
 add-weighed-requires : tie.Need-add-weighed-requires
 add-weighed-requires c κs =
     let a = begun (c .before .before .before .before .before .before .before .before .before) in
-    let filled = a .pre .1 .1 .1 .1 .1 .0 in (
-      a .pre .1 .1 .1 .1 .1 .1,
+    let filled = a .pre .1 .1 .1 .1 .1 .1 .1 .0 in (
+      a .pre .1 .1 .1 .1 .1 .1 .1 .1,
       rw (c .before .before .before .before .before .before .before .values .ensures) (filled .below (a .args .c .id) (a .pre .1 .1 .0 .earlier)),
       rw (c .mul .ensures) (mul-below _ _),
     )

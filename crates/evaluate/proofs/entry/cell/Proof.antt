@@ -1,6 +1,7 @@
 -- `evaluate::entry::cell` meets its contract: its two weights are multiplied once for the three values.
 use borrow.Author.Needs.{needs}
-use Rattle.evaluate.proofs.Weighing.{weight-below}
+use Rattle.evaluate.proofs.Cutting.{weight-below}
+use Rattle.evaluate.proofs.Weighing.{mul-below}
 use Rattle.evaluate.proofs.entry.cell.Statement.{statement}
 use Rattle.evaluate.proofs.entry.cell.Tie as tie
 
@@ -29,7 +30,14 @@ mul-requires : tie.Need-mul-requires
 mul-requires c κs = (rw (c .before .before .weigh .ensures) (weight-below _ _), rw (c .weigh2 .ensures) (weight-below _ _))
 
 add-weighed-requires : tie.Need-add-weighed-requires
-add-weighed-requires c κs = search needs
+add-weighed-requires c κs =
+    let a = c .before .before .before .before .before .before .before .before .before .before .before .before in
+    let new = c .before .before .before .before .before in (
+      a .pre .1 .1 .1 .1 .1,
+      rw (new .new3 .ensures, new .before .new2 .ensures, new .before .before .new .ensures)
+          (record { a-below = a .pre .0 .a-below; b-below = a .pre .0 .b-below; c-below = a .pre .0 .c-below }),
+      rw (c .mul .ensures) (mul-below _ _),
+    )
 
 returns : tie.Need-returns
 returns c =

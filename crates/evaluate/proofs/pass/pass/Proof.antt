@@ -10,17 +10,17 @@ use Rattle.evaluate.proofs.pass.pass.Statement.{statement}
 use Rattle.evaluate.proofs.pass.pass.Tie as tie
 
 abbrev Inv-loop : tie.InvT-loop
-Inv-loop key starts arrays rows columns sheet₀ i₀ sheet i = Passing (keyArrays key) rows columns sheet₀ i sheet
+Inv-loop key starts arrays rows columns rowwise columnwise sheet₀ i₀ sheet i = Passing (keyArrays key) rows columns sheet₀ i sheet
 
 abbrev μ-loop : tie.MeasureT-loop
-μ-loop key starts arrays rows columns sheet₀ i₀ sheet i = arrays - i
+μ-loop key starts arrays rows columns rowwise columnwise sheet₀ i₀ sheet i = arrays - i
 
 -- the start of a turn's call, and the places that its sheet has
 abbrev start : tie.At-loop Inv-loop μ-loop → tie.Start Inv-loop μ-loop
-start t = t .before .before .before .before .before .before
+start t = t .before .before .before .before .before .before .before .before
 
 room : (a : tie.Start Inv-loop μ-loop) → 3 * length (keyArrays (now (a .args .key))) ≤ length (now (a .args .sheet))
-room a = omega (arith, a .pre .1 .0, a .pre .1 .1 .1)
+room a = omega (arith, a .pre .1 .0, a .pre .1 .1 .1 .1 .1)
 
 loop-holds : tie.Need-loop-holds Inv-loop μ-loop
 loop-holds c = passing-begun _ _ _ _
@@ -29,13 +29,16 @@ values-requires : tie.Need-values-requires Inv-loop μ-loop
 values-requires c κs =
     let t = c .before .before in
     let a = start t in
-    (a .pre .0, (a .pre .1 .0, (c .before .loop-test .taken, (a .pre .1 .1 .0, passing-filled _ _ _ _ (room a) _ _ (t .loop .inv)))))
+    let filled = passing-filled _ _ _ _ (room a) _ _ (t .loop .inv) in (
+      a .pre .0,
+      (a .pre .1 .0, (c .before .loop-test .taken, (a .pre .1 .1 .0, (a .pre .1 .1 .1 .0, (a .pre .1 .1 .1 .1 .0, filled))))),
+    )
 
 put-requires : tie.Need-put-requires Inv-loop μ-loop
 put-requires c κs =
     let t = c .before .before .before .before in
     let a = start t in
-    omega (arith, passing-length _ _ _ _ (room a) _ _ (t .loop .inv), c .before .before .before .loop-test .taken, a .pre .1 .1 .1)
+    omega (arith, passing-length _ _ _ _ (room a) _ _ (t .loop .inv), c .before .before .before .loop-test .taken, room a, a .pre .1 .0)
 
 add-i : tie.Need-add-i Inv-loop μ-loop
 add-i c = omega arith
