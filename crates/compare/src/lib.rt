@@ -6,6 +6,8 @@ use evaluate::pass;
 use key::Checked;
 use refusal::Refusal;
 ghost use mathlib.Core.Path.{_≡_};
+ghost use Prim.Native.Nat.{min, _/_, _≤_};
+ghost use lib.ListN.{length};
 ghost use Rattle.evaluate.specs.Evaluate.{valuesIn};
 ghost use Rattle.compare.specs.AgreementBound.{Agreement};
 ghost use Rattle.compare.specs.Compare.{comparedAnswer, likeness, compared};
@@ -42,13 +44,55 @@ pub fn compare(
     ensures sheet { λ _. ⌜ now (sheet .exit) ≡ compared (now (first .entry)) (now (second .entry)) (now (rows .entry)) (now (columns .entry)) (now (sheet .entry)) .sheet ⌝ }
     ensures agreement { λ _. ⌜ Agreement (now (first .entry)) (now (second .entry)) ⌝ }
 {
-    let mut first_starts = [0u32; 1024];
-    let first_counts = match key::index(first, &mut first_starts) {
+    if first.len() < 192 {
+        if second.len() < 192 {
+            let mut first_short = [0u16; 64];
+            let mut second_short = [0u16; 64];
+            return by_tables(
+                first,
+                second,
+                rows,
+                columns,
+                sheet,
+                &mut first_short,
+                &mut second_short,
+            );
+        }
+    }
+    let mut first_starts = [0u16; 1024];
+    let mut second_starts = [0u16; 1024];
+    by_tables(
+        first,
+        second,
+        rows,
+        columns,
+        sheet,
+        &mut first_starts,
+        &mut second_starts,
+    )
+}
+
+// The same, with tables for the offsets of the keys' arrays. Inner: each has a place for each array that a key of its key's length may
+// have.
+fn by_tables(
+    first: &[u8],
+    second: &[u8],
+    rows: &[u32],
+    columns: &[u32],
+    sheet: &mut [u32],
+    first_starts: &mut [u16],
+    second_starts: &mut [u16],
+) -> Compared
+    requires { ⌜ min 1024 (length (now first) / 3) ≤ length (now «first_starts») ⌝ }
+    requires { ⌜ min 1024 (length (now second) / 3) ≤ length (now «second_starts») ⌝ }
+    ensures answer { λ r. ⌜ comparedAnswer r ≡ compared (now (first .entry)) (now (second .entry)) (now (rows .entry)) (now (columns .entry)) (now (sheet .entry)) .answer ⌝ }
+    ensures sheet { λ _. ⌜ now (sheet .exit) ≡ compared (now (first .entry)) (now (second .entry)) (now (rows .entry)) (now (columns .entry)) (now (sheet .entry)) .sheet ⌝ }
+{
+    let first_counts = match key::index(first, first_starts) {
         Checked::Refused(refusal) => return Compared::Refused(Which::First, refusal),
         Checked::Accepted(counts) => counts,
     };
-    let mut second_starts = [0u32; 1024];
-    let second_counts = match key::index(second, &mut second_starts) {
+    let second_counts = match key::index(second, second_starts) {
         Checked::Refused(refusal) => return Compared::Refused(Which::Second, refusal),
         Checked::Accepted(counts) => counts,
     };
@@ -56,22 +100,24 @@ pub fn compare(
         Checked::Refused(refusal) => return Compared::Refused(Which::Neither, refusal),
         Checked::Accepted(_) => (),
     }
-    let first_values = pass::run(
+    pass::run(
         first,
-        &first_starts,
+        first_starts,
         first_counts.arrays,
         rows,
         columns,
         sheet,
     );
-    let second_values = pass::run(
+    let first_values = pass::last(sheet, first_counts.arrays);
+    pass::run(
         second,
-        &second_starts,
+        second_starts,
         second_counts.arrays,
         rows,
         columns,
         sheet,
     );
+    let second_values = pass::last(sheet, second_counts.arrays);
     likeness(first_values, second_values)
 }
 

@@ -19,6 +19,7 @@ use Rattle.arrays.specs.WellFormed.{EntriesFit}
 use Rattle.arrays.proofs.Parts.{value-by}
 use Rattle.key.specs.Encoding.{cellRecord, callRecord, entryRecords}
 use Rattle.key.specs.Index.{Runs}
+use Rattle.key.specs.Inner.{IsEntry}
 use Rattle.key.specs.KeyArrays.{keyArrays}
 use Rattle.evaluate.specs.Inner.{cellWeight, callWeight, ValuesBelow, sheetValues, addedTo, entryAdded, EntryFits, nextValues}
 
@@ -85,6 +86,7 @@ module _ (key rows columns sheet : List ℕ) (i to : ℕ) where
   -- the next entry
   pub record Next (sum : Values) (at : ℕ) : Type 0 where
     pub item : Record
+    pub entry : IsEntry item
     pub taken : takenAt key at ≡ takenOutcome (Taken.Record item (at + length (encoded item)))
     pub fits : EntryFits (keyArrays key) i (own .row-bits) (own .column-bits) item
     pub onward : Adding
@@ -107,6 +109,7 @@ module _ (key rows columns sheet : List ℕ) (i to : ℕ) where
       go (cells (c ∷ list)) runs fit becomes =
           record {
             item = cellRecord c;
+            entry = tt;
             taken = runs .0;
             fits = fit .0;
             onward = record {
@@ -122,6 +125,7 @@ module _ (key rows columns sheet : List ℕ) (i to : ℕ) where
       go (calls (c ∷ list)) runs fit becomes =
           record {
             item = callRecord c;
+            entry = tt;
             taken = runs .0;
             fits = fit .0;
             onward = record {

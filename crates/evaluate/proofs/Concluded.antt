@@ -3,17 +3,17 @@ use Prim.Native.Nat.{ℕ, _≤_}
 use mathlib.Core.List.{List}
 use mathlib.Core.Path.{_≡_, sym, ap, _∙_}
 use native.Mathlib.Omega.{arith}
-use lib.ListN.{length, getD, drop, length-append}
+use lib.ListN.{length, getD, length-take}
+use lib.Seq.{getD-take}
 use Rattle.refusal.specs.Outcome.{Outcome, given, refused, andThen}
 use Rattle.refusal.specs.declared.Refusal.{Refusal}
 use Rattle.arrays.specs.Arrays.{Values}
 use Rattle.key.specs.Check.{checkedOutcome, checkedKey}
-use Rattle.key.specs.Index.{startsOf, indexed, indexedKey}
+use Rattle.key.specs.Index.{startsOf, Indexing}
 use Rattle.key.specs.KeyArrays.{keyArrays}
 use Rattle.key.specs.declared.Checked.{Checked}
 use Rattle.key.specs.declared.Counts.{Counts}
 use Rattle.key.proofs.Acceptance.{acceptance}
-use Rattle.key.proofs.Promises.{table-at}
 use Rattle.evaluate.specs.Evaluate.{Evaluation, concluded, evaluatedOutcome}
 use Rattle.evaluate.specs.Inner.{Indexed}
 use Rattle.evaluate.specs.Judged.{sheetJudged}
@@ -29,21 +29,17 @@ module _ (key : List ℕ) (counts : Counts) (accepted : checkedKey key ≡ given
   pub at-most-1024 : counts .arrays ≤ 1024
   at-most-1024 = omega (arith, acceptance key counts accepted .at-most-1024, arrays-counted)
 
-  pub table-indexed : (table after : List ℕ) → after ≡ indexedKey key table → Indexed key after
-  unfolding indexed
-  table-indexed table after e =
+  pub table-indexed : (after : List ℕ) → Indexing key after → Indexed key after
+  table-indexed after indexing =
       let index = acceptance key counts accepted .index in
+      let first = indexing counts accepted in
       record {
         counts = counts;
         accepted = accepted;
-        room = omega (
-          arith,
-          index .one-each,
-          ap length (e ∙ ap (λ (o : Outcome Counts). indexed o (startsOf key) table) accepted),
-          length-append (startsOf key) (drop (length (startsOf key)) table),
-        );
+        room = omega (arith, index .one-each, ap length first, length-take (length (startsOf key)) after);
         offsets = λ i l.
-            ap (λ (t : List ℕ). getD t i 0) e ∙ table-at key table counts accepted i (omega (arith, index .one-each));
+            sym (getD-take (length (startsOf key)) after i 0 (omega (arith, index .one-each, l)))
+            ∙ ap (λ (t : List ℕ). getD t i 0) first;
       }
 
 -- what is answered and left on the sheet, by what the judgements come to

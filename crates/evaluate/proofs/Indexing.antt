@@ -3,34 +3,26 @@ use Prim.Native.Nat.{ℕ, _+_, _-_, _≤_, _<_}
 use mathlib.Core.List.{List, [], _∷_, _++_}
 use mathlib.Core.Path.{_≡_, refl, sym, ap, subst, _∙_}
 use native.Mathlib.Omega.{arith}
-use lib.ListN.{length, getD, take, drop, List·getD-append}
-use lib.Seq.{getD-at, drop-drop}
-use Rattle.records.specs.Kinds.{kindOf, fieldsOf, widthsOf, encoded}
-use Rattle.records.specs.Layout.{numberIn, fieldsIn}
-use Rattle.records.specs.Take.{Found, takenOutcome, takenAt}
+use lib.ListN.{length, getD, List·getD-append}
+use lib.Seq.{getD-at}
+use Rattle.records.specs.Kinds.{encoded}
+use Rattle.records.specs.Take.{takenOutcome, takenAt}
 use Rattle.records.specs.declared.Record.{Record}
 use Rattle.records.specs.declared.Taken.{Taken}
-use Rattle.records.proofs.Numbers.{byte-in}
-use Rattle.records.proofs.Taking.{given-whole, given-onward}
+use Rattle.records.proofs.Taking.{given-onward}
 use Rattle.arrays.specs.Arrays.{Entries, cells, calls, Array, arrayAt}
 use Rattle.key.specs.Accepted.{Accepted}
 use Rattle.key.specs.Encoding.{openingRecord, entryRecords}
 use Rattle.key.specs.Index.{startsOf, Runs}
+use Rattle.key.specs.Inner.{Stands}
 use Rattle.key.specs.KeyArrays.{keyArrays}
 use Rattle.key.proofs.Acceptance.{acceptance}
+use Rattle.key.proofs.Openings.{opening-stands}
 use Rattle.evaluate.specs.Inner.{Indexed}
 
 opening-length : (k k' : ℕ) (entries : Entries) → length (encoded (openingRecord k k' entries)) ≡ 3
 opening-length k k' (cells list) = refl
 opening-length k k' (calls list) = refl
-
-opening-fields : (k k' : ℕ) (entries : Entries) → fieldsOf (openingRecord k k' entries) ≡ k ∷ k' ∷ []
-opening-fields k k' (cells list) = refl
-opening-fields k k' (calls list) = refl
-
-opening-widths : (k k' : ℕ) (entries : Entries) → widthsOf (kindOf (openingRecord k k' entries)) ≡ 1 ∷ 1 ∷ []
-opening-widths k k' (cells list) = refl
-opening-widths k k' (calls list) = refl
 
 module _ (key starts : List ℕ) (indexed : Indexed key starts) where
   pub accepts : Accepted key (indexed .counts)
@@ -70,25 +62,17 @@ module _ (key starts : List ℕ) (indexed : Indexed key starts) where
     pub opening-inside : (getD starts i 0 + 3 ≤ length key) × (length key ≤ 65536)
     opening-inside = (given-onward key (getD starts i 0) _ opened .1, accepts .at-most-65536)
 
-    -- the two bytes behind its kind are the array's shape
-    pub opening-bytes : (getD key (getD starts i 0 + 1) 0 ≡ own .row-bits) × (getD key (getD starts i 0 + 2) 0 ≡ own .column-bits)
+    -- its shape stands behind its kind
+    pub opening-shape : Stands key (getD starts i 0) (record { rows = own .row-bits; columns = own .column-bits })
     unfolding opening
-    opening-bytes =
-        let at = getD starts i 0 in
-        let whole = given-whole key at _ opened in
-        let kind = ap (λ (t : Found). t .kind) (whole .is) in
-        let fields =
-        sym (opening-fields _ _ (own .entries))
-        ∙ ap (λ (t : Found). t .fields) (whole .is)
-        ∙ ap (λ (k : ℕ). fieldsIn (widthsOf k) (drop (at + 1) key)) (sym kind)
-        ∙ ap (λ (widths : List ℕ). fieldsIn widths (drop (at + 1) key)) (opening-widths _ _ (own .entries)) in
-        let two : at + 2 ≡ at + 1 + 1 = omega arith in (
-          sym (byte-in key (at + 1) (omega (arith, opening-inside))) ∙ sym (ap (λ (l : List ℕ). getD l 0 0) fields),
-          ap (λ (n : ℕ). getD key n 0) two
-              ∙ sym (byte-in key (at + 1 + 1) (omega (arith, opening-inside)))
-              ∙ ap (λ (l : List ℕ). numberIn (take 1 l)) (sym (drop-drop 1 (at + 1) key))
-              ∙ sym (ap (λ (l : List ℕ). getD l 1 0) fields),
-        )
+    opening-shape = go (own .entries) opened
+      where
+        go : (entries : Entries) →
+            takenAt key (getD starts i 0) ≡
+            takenOutcome (Taken.Record (openingRecord (own .row-bits) (own .column-bits) entries) (getD starts i 0 + 3)) →
+            Stands key (getD starts i 0) (record { rows = own .row-bits; columns = own .column-bits })
+        go (cells list) e = opening-stands key (getD starts i 0) _ (Record.Sparse _) e .0
+        go (calls list) e = opening-stands key (getD starts i 0) _ (Record.Recursive _) e .0
 
   pub key-some : 1 ≤ length key
   key-some = let l = given-onward key (length key - 1) _ (accepts .index .end) .0 in omega (arith, l)

@@ -1,7 +1,7 @@
 -- What the sheet holds behind the whole pass: every array's extensions, those of the last among them.
-use Prim.Native.Nat.{ℕ, suc, _-_, _*_, _≤_, _<_}
+use Prim.Native.Nat.{ℕ, _-_, _*_, _≤_, _<_}
 use mathlib.Core.List.{List}
-use mathlib.Core.Path.{_≡_, ap, _∙_}
+use mathlib.Core.Path.{_≡_, sym, ap, _∙_}
 use native.Mathlib.Omega.{arith}
 use lib.ListN.{length}
 use Rattle.arrays.specs.Arrays.{Values}
@@ -9,7 +9,7 @@ use Rattle.key.specs.Accepted.{Accepted}
 use Rattle.key.specs.KeyArrays.{keyArrays}
 use Rattle.key.proofs.Acceptance.{acceptance}
 use Rattle.evaluate.specs.Evaluate.{lastOf, valuesAt, lastValues}
-use Rattle.evaluate.specs.Inner.{ValuesBelow, AtPoint, sheetValues, Filled, passedValues}
+use Rattle.evaluate.specs.Inner.{AtPoint, sheetValues, Filled, passedValues}
 use Rattle.evaluate.specs.Sheet.{wordsOf, laid}
 use Rattle.evaluate.proofs.Extended.{passed-extended}
 use Rattle.evaluate.proofs.Passing.{Passing, passing-filled, on-sheet}
@@ -19,7 +19,7 @@ module _ (key rows columns : List ℕ) (point : AtPoint key rows columns) (array
   accepts : Accepted key (point .counts)
   accepts = acceptance key (point .counts) (point .accepted)
 
-  pub some-array : 1 ≤ arrays
+  some-array : 0 < arrays
   some-array = omega (arith, accepts .last-of-shape .some-array)
 
   extended : (i : ℕ) → i < length (keyArrays key) →
@@ -28,17 +28,27 @@ module _ (key rows columns : List ℕ) (point : AtPoint key rows columns) (array
       passed-extended (keyArrays key) (point .counts .rows) (point .counts .columns) (accepts .well-formed) i l rows columns
       (point .rows-given .enough) (point .columns-given .enough)
 
+  -- the sheet with the values of the pass is the sheet with the extensions
+  same-sheet : (lent : List ℕ) →
+      laid 0 (λ i. wordsOf (passedValues (keyArrays key) rows columns i)) arrays lent
+      ≡ laid 0 (λ i. wordsOf (valuesAt (keyArrays key) rows columns i)) arrays lent
+  same-sheet lent =
+      laid-same 0 (λ i. wordsOf (passedValues (keyArrays key) rows columns i))
+      (λ i. wordsOf (valuesAt (keyArrays key) rows columns i)) arrays lent (λ i l. ap wordsOf (extended i (omega arith)))
+
+  pub sheet-extended : (lent after : List ℕ) →
+      after ≡ laid 0 (λ i. wordsOf (passedValues (keyArrays key) rows columns i)) arrays lent →
+      after ≡ laid 0 (λ i. wordsOf (valuesAt (keyArrays key) rows columns i)) arrays lent
+  sheet-extended lent after passed = passed ∙ same-sheet lent
+
   module _ (lent after : List ℕ) (room : 3 * arrays ≤ length lent)
-      (passed : after ≡ laid 0 (λ i. wordsOf (passedValues (keyArrays key) rows columns i)) arrays lent) where
+      (written : after ≡ laid 0 (λ i. wordsOf (valuesAt (keyArrays key) rows columns i)) arrays lent) where
     whole : Passing (keyArrays key) rows columns lent arrays after
-    whole = record { holds = passed; most = omega arith }
+    whole = record { holds = written ∙ sym (same-sheet lent); most = omega arith }
 
-    filled : Filled arrays after
-    filled = passing-filled (keyArrays key) rows columns lent (omega arith) arrays after whole
-
-    -- the last array's values stand on the sheet
-    pub last-filled : (3 * suc (arrays - 1) ≤ length after) × ValuesBelow (sheetValues after (arrays - 1))
-    last-filled = (omega (arith, filled .room, some-array), filled .below (arrays - 1) (omega (arith, some-array)))
+    -- there is a last array, and its values stand on the sheet
+    pub last-filled : (0 < arrays) × Filled arrays after
+    last-filled = (some-array, passing-filled (keyArrays key) rows columns lent (omega arith) arrays after whole)
 
     pub last-extended : (values : Values) → values ≡ sheetValues after (arrays - 1) →
         values ≡ lastValues key rows columns
@@ -48,10 +58,3 @@ module _ (key rows columns : List ℕ) (point : AtPoint key rows columns) (array
         ∙ on-sheet (keyArrays key) rows columns lent (omega arith) arrays after whole (arrays - 1) (omega (arith, some-array))
         ∙ extended (arrays - 1) (omega (arith, some-array))
         ∙ ap (valuesAt (keyArrays key) rows columns) last
-
-    pub sheet-extended : after ≡ laid 0 (λ i. wordsOf (valuesAt (keyArrays key) rows columns i)) arrays lent
-    sheet-extended =
-        passed
-        ∙ laid-same 0 (λ i. wordsOf (passedValues (keyArrays key) rows columns i))
-        (λ i. wordsOf (valuesAt (keyArrays key) rows columns i)) arrays lent
-        (λ i l. ap wordsOf (extended i (omega arith)))

@@ -1,22 +1,23 @@
 -- A turn of the loop that adds an array's entries up, by what is taken at its offset.
 use Prim.Native.Nat.{ℕ, min, _+_, _≤_, _<_}
 use mathlib.Core.List.{List}
+use mathlib.Core.Logic.{_⊎_, inl, inr}
 use mathlib.Core.Path.{_≡_, sym, ap, subst, _∙_}
 use native.Mathlib.Omega.{arith}
-use lib.ListN.{length}
-use Rattle.refusal.specs.declared.Refusal.{Refusal}
+use lib.ListN.{length, getD}
 use Rattle.records.specs.Kinds.{encoded}
-use Rattle.records.specs.Take.{takenOutcome, takenAt}
+use Rattle.records.specs.Take.{Found, takenOutcome, takenAt}
 use Rattle.records.specs.declared.Record.{Record}
 use Rattle.records.specs.declared.Taken.{Taken}
-use Rattle.records.proofs.Answers.{taken-injective, record-same, record-not-refused}
-use Rattle.records.proofs.Taking.{given-onward}
+use Rattle.records.proofs.Answers.{taken-injective, record-same}
+use Rattle.records.proofs.Taking.{given-whole, given-onward}
 use Rattle.arrays.specs.Arrays.{Values, Array, arrayAt}
 use Rattle.arrays.specs.Placing.{blocks}
 use Rattle.arrays.specs.WellFormed.{ArrayFits, WellFormed}
+use Rattle.key.specs.Inner.{IsEntry}
 use Rattle.key.specs.KeyArrays.{keyArrays}
 use Rattle.key.proofs.Acceptance.{acceptance}
-use Rattle.evaluate.specs.Inner.{Coordinates, Tabled, AtPoint, entryAdded, EntryFits}
+use Rattle.evaluate.specs.Inner.{Coordinates, Tabled, AtPoint, entryAdded, EntryFits, EntryAt}
 use Rattle.evaluate.proofs.Adding.{Adding, Next, adding-next}
 use Rattle.evaluate.proofs.Tabulating.{tabled-fewer}
 
@@ -50,6 +51,29 @@ module _ (key rows columns : List ℕ) (point : AtPoint key rows columns) (i : �
       tabled-fewer (min 30 (length columns)) _ columns table
       (omega (arith, fits .columns-at-most, accepted .columns-at-most-30, point .columns-given .enough)) tabled
 
+-- where entries are left, one stands at the offset
+pub entry-next : (key rows columns sheet : List ℕ) (i to : ℕ) (sum : Values) (at : ℕ) → at < to →
+    Adding key rows columns sheet i to sum at → EntryAt key at
+entry-next key rows columns sheet i to sum at l adding =
+    let next = adding-next key rows columns sheet i to sum at l adding in
+    record { item = next .item; entry = next .entry; taken = next .taken }
+
+-- it is a cell or a call, and lies in the key
+pub entry-room : (key : List ℕ) (at : ℕ) → EntryAt key at →
+    ((getD key at 0 ≡ 4) × (at + 21 ≤ length key)) ⊎ ((getD key at 0 ≡ 5) × (at + 11 ≤ length key))
+entry-room key at e = go (e .item) (e .entry) (e .taken)
+  where
+    go : (item : Record) → IsEntry item → takenAt key at ≡ takenOutcome (Taken.Record item (at + length (encoded item))) →
+        ((getD key at 0 ≡ 4) × (at + 21 ≤ length key)) ⊎ ((getD key at 0 ≡ 5) × (at + 11 ≤ length key))
+    go (Record.Head shape) entry taken = absurd entry
+    go (Record.Sparse shape) entry taken = absurd entry
+    go (Record.Recursive shape) entry taken = absurd entry
+    go (Record.Cell c) entry taken =
+        inl (sym (ap (λ (t : Found). t .kind) (given-whole key at _ taken .is)), given-onward key at _ taken .1)
+    go (Record.Call c) entry taken =
+        inr (sym (ap (λ (t : Found). t .kind) (given-whole key at _ taken .is)), given-onward key at _ taken .1)
+    go Record.End entry taken = absurd entry
+
 module _ (key rows columns sheet : List ℕ) (i to : ℕ) (sum : Values) (at : ℕ) (l : at < to)
     (adding : Adding key rows columns sheet i to sum at) (taken : Taken) (answer : takenOutcome taken ≡ takenAt key at) where
   abbrev own : Array
@@ -60,9 +84,6 @@ module _ (key rows columns sheet : List ℕ) (i to : ℕ) (sum : Values) (at : �
 
   found : taken ≡ Taken.Record (following .item) (at + length (encoded (following .item)))
   found = taken-injective taken (Taken.Record (following .item) (at + length (encoded (following .item)))) (answer ∙ following .taken)
-
-  pub never-refused : (f : Refusal) → taken ≡ Taken.Refused f → ⊥
-  never-refused f e = record-not-refused taken (following .item) (at + length (encoded (following .item))) f found e
 
   module _ (item : Record) (next : ℕ) (e : taken ≡ Taken.Record item next) where
     same : (following .item ≡ item) × (at + length (encoded (following .item)) ≡ next)

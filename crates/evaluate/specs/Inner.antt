@@ -9,10 +9,13 @@ use lib.Seq.{slice}
 use Rattle.refusal.specs.Outcome.{given}
 use Rattle.algebra.specs.Points.{Below}
 use Rattle.field.specs.Fp.{p, fp}
+use Rattle.records.specs.Kinds.{encoded}
+use Rattle.records.specs.Take.{takenOutcome, takenAt}
 use Rattle.records.specs.declared.Call.{Call as CallRecord}
 use Rattle.records.specs.declared.Cell.{Cell as CellRecord}
 use Rattle.records.specs.declared.Record.{Record}
 use Rattle.records.specs.declared.Shape.{Shape}
+use Rattle.records.specs.declared.Taken.{Taken}
 use Rattle.multilinear.specs.Weight.{weight}
 use Rattle.arrays.specs.Arrays.{Values, valueOf, valuesBy, Array, arrayAt}
 use Rattle.arrays.specs.Pass.{arrayValue, valueAt, valuesBelow}
@@ -21,6 +24,7 @@ use Rattle.arrays.specs.Side.{coordinates}
 use Rattle.arrays.specs.WellFormed.{CellFits, CallFits}
 use Rattle.key.specs.Check.{checkedKey}
 use Rattle.key.specs.Index.{startsOf}
+use Rattle.key.specs.Inner.{IsEntry}
 use Rattle.key.specs.KeyArrays.{cellIn, callIn, keyArrays}
 use Rattle.key.specs.declared.Checked.{Checked}
 use Rattle.key.specs.declared.Counts.{Counts}
@@ -113,6 +117,12 @@ EntryFits arrays i k k' (Record.Recursive shape) = Unit {0}
 EntryFits arrays i k k' (Record.Cell c) = CellFits k k' (cellIn c)
 EntryFits arrays i k k' (Record.Call c) = CallFits blocks blocks arrays i k k' (callIn c)
 EntryFits arrays i k k' Record.End = Unit {0}
+
+-- at an offset of a key stands a cell or a call
+pub record EntryAt (key : List ℕ) (at : ℕ) : Type 0 where
+  pub item : Record
+  pub entry : IsEntry item
+  pub taken : takenAt key at ≡ takenOutcome (Taken.Record item (at + length (encoded item)))
 
 -- the shape of an array
 abbrev pub shapeAt : List Array → ℕ → Shape

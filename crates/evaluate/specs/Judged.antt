@@ -8,7 +8,7 @@ use lib.ListN.{length}
 use Rattle.refusal.specs.Outcome.{Outcome, given, refuse}
 use Rattle.refusal.specs.declared.Reason.{Reason}
 use Rattle.field.specs.Fp.{p}
-use Rattle.key.specs.Rules.{outside}
+use Rattle.rules.specs.Rules.{outside}
 use Rattle.key.specs.declared.Counts.{Counts}
 
 -- the index of the first number that is p or more; how many there are where none is

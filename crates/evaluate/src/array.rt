@@ -2,35 +2,34 @@
 use crate::Values;
 use crate::entry;
 use field::Fp;
+use records::Record;
 use records::Shape;
-use records::Taken;
+use records::read;
 ghost use mathlib.Core.Path.{_≡_};
 ghost use mathlib.Core.List.{[], _∷_, _++_};
 ghost use Prim.Native.Nat.{min, _+_, _-_, _<_};
 ghost use lib.ListN.{length, getD};
+ghost use Rattle.records.specs.Take.{takenOutcome, takenAt};
+ghost use Rattle.records.specs.declared.Taken.{Taken};
 ghost use Rattle.key.specs.Index.{startsOf};
 ghost use Rattle.key.specs.KeyArrays.{keyArrays};
 ghost use Rattle.evaluate.specs.Evaluate.{valuesIn};
-ghost use Rattle.evaluate.specs.Inner.{Indexed, AtPoint, Tabled, Filled, shapeAt, nextValues};
+ghost use Rattle.evaluate.specs.Inner.{Indexed, AtPoint, Tabled, Filled, EntryAt, shapeAt, nextValues};
 
 // The shape of array i: the two bytes behind its opening's kind. Inner: the key is accepted and indexed, and has such an array.
-pub(crate) fn shape(key: &[u8], starts: &[u32], i: usize) -> Shape
+pub(crate) fn shape(key: &[u8], starts: &[u16], i: usize) -> Shape
     requires { ⌜ Indexed (now key) (now starts) ⌝ }
     requires { ⌜ i < length (keyArrays (now key)) ⌝ }
     ensures { λ r. ⌜ r ≡ shapeAt (keyArrays (now (key .entry))) i ⌝ }
 {
-    let at = starts[i] as usize;
-    Shape {
-        rows: key[at + 1],
-        columns: key[at + 2],
-    }
+    rules::shape_at(key, starts, i)
 }
 
 // The values of array i, in a key that has so many arrays: its entries, added up one by one. Inner: the key is accepted and
 // indexed, the point is one for it, the tables are the point's, and the values of the arrays before stand on the sheet.
 pub(crate) fn values(
     key: &[u8],
-    starts: &[u32],
+    starts: &[u16],
     arrays: usize,
     i: usize,
     rows: &[u32],
@@ -57,11 +56,8 @@ pub(crate) fn values(
     };
     let mut at = starts[i] as usize + 3;
     while at < to {
-        let taken = records::take(key, at);
-        let Taken::Record(item, next) = taken else {
-            // Not reached: the entries of an array can be taken.
-            return sum;
-        };
+        let step = entry_at(key, at);
+        let item = step.item;
         sum = entry::add(
             sum,
             item,
@@ -75,14 +71,42 @@ pub(crate) fn values(
             columnwise,
             sheet,
         );
-        at = next;
+        at = step.next;
     }
     sum
 }
 
+// An entry, and the offset behind it.
+struct Step {
+    item: Record,
+    next: usize,
+}
+
+// The cell or the call at an offset, read by its kind. Inner: one of them is there.
+fn entry_at(key: &[u8], at: usize) -> Step
+    requires { ⌜ EntryAt (now key) at ⌝ }
+    ensures { λ r. ⌜ takenOutcome (Taken.Record (r .item) (r .next)) ≡ takenAt (now (key .entry)) at ⌝ }
+{
+    let body = at + 1;
+    if key[at] == 4 {
+        let c = read::cell(key, body);
+        let behind_cell = at + 21;
+        return Step {
+            item: Record::Cell(c),
+            next: behind_cell,
+        };
+    }
+    let c = read::call(key, body);
+    let behind_call = at + 11;
+    Step {
+        item: Record::Call(c),
+        next: behind_call,
+    }
+}
+
 // The offset behind array i's entries, in a key that has so many arrays: that of the next opening or of the end. Inner: the key
 // is accepted and indexed, and has such an array.
-fn behind(key: &[u8], starts: &[u32], arrays: usize, i: usize) -> usize
+fn behind(key: &[u8], starts: &[u16], arrays: usize, i: usize) -> usize
     requires { ⌜ Indexed (now key) (now starts) ⌝ }
     requires { ⌜ arrays ≡ length (keyArrays (now key)) ⌝ }
     requires { ⌜ i < arrays ⌝ }

@@ -58,10 +58,10 @@ pub(crate) fn place(checked: Checked, row: u32, column: u32) -> Checked
 fn place_of(counts: Counts, row: u32, column: u32) -> Checked
     ensures { λ r. ⌜ checkedOutcome r ≡ placeJudged row column counts ⌝ }
 {
-    if key::outside(counts.rows, row) {
+    if rules::outside(counts.rows, row) {
         return key::refused(Reason::AddressOutside, 0);
     }
-    if key::outside(counts.columns, column) {
+    if rules::outside(counts.columns, column) {
         return key::refused(Reason::AddressOutside, 1);
     }
     Checked::Accepted(counts)

@@ -10,6 +10,8 @@ use field::Fp;
 use key::Checked;
 use refusal::Refusal;
 ghost use mathlib.Core.Path.{_≡_};
+ghost use Prim.Native.Nat.{min, _/_, _≤_};
+ghost use lib.ListN.{length};
 ghost use Rattle.evaluate.specs.Cell.{celled};
 ghost use Rattle.evaluate.specs.Evaluate.{evaluatedOutcome, evaluated};
 
@@ -34,14 +36,34 @@ pub fn evaluate(key: &[u8], rows: &[u32], columns: &[u32], sheet: &mut [u32]) ->
     ensures answer { λ r. ⌜ evaluatedOutcome r ≡ evaluated (now (key .entry)) (now (rows .entry)) (now (columns .entry)) (now (sheet .entry)) .answer ⌝ }
     ensures sheet { λ _. ⌜ now (sheet .exit) ≡ evaluated (now (key .entry)) (now (rows .entry)) (now (columns .entry)) (now (sheet .entry)) .sheet ⌝ }
 {
-    let mut starts = [0u32; 1024];
-    let checked = key::index(key, &mut starts);
+    if key.len() < 192 {
+        let mut short = [0u16; 64];
+        return at_point(key, rows, columns, sheet, &mut short);
+    }
+    let mut starts = [0u16; 1024];
+    at_point(key, rows, columns, sheet, &mut starts)
+}
+
+// The same, with a table for the offsets of the key's arrays. Inner: it has a place for each array that a key of this length may have.
+fn at_point(
+    key: &[u8],
+    rows: &[u32],
+    columns: &[u32],
+    sheet: &mut [u32],
+    starts: &mut [u16],
+) -> Evaluated
+    requires { ⌜ min 1024 (length (now key) / 3) ≤ length (now starts) ⌝ }
+    ensures answer { λ r. ⌜ evaluatedOutcome r ≡ evaluated (now (key .entry)) (now (rows .entry)) (now (columns .entry)) (now (sheet .entry)) .answer ⌝ }
+    ensures sheet { λ _. ⌜ now (sheet .exit) ≡ evaluated (now (key .entry)) (now (rows .entry)) (now (columns .entry)) (now (sheet .entry)) .sheet ⌝ }
+{
+    let checked = key::index(key, starts);
     let pointed = judge::point(checked, rows, columns);
     let judged = judge::sheet(pointed, sheet.len());
     match judged {
         Checked::Refused(refusal) => Evaluated::Refused(refusal),
         Checked::Accepted(counts) => {
-            Evaluated::Values(pass::run(key, &starts, counts.arrays, rows, columns, sheet))
+            pass::run(key, starts, counts.arrays, rows, columns, sheet);
+            Evaluated::Values(pass::last(sheet, counts.arrays))
         }
     }
 }
@@ -52,8 +74,21 @@ pub fn cell(key: &[u8], row: u32, column: u32, sheet: &mut [u32]) -> Evaluated
     ensures answer { λ r. ⌜ evaluatedOutcome r ≡ celled (now (key .entry)) row column (now (sheet .entry)) .answer ⌝ }
     ensures sheet { λ _. ⌜ now (sheet .exit) ≡ celled (now (key .entry)) row column (now (sheet .entry)) .sheet ⌝ }
 {
-    let mut starts = [0u32; 1024];
-    let checked = key::index(key, &mut starts);
+    if key.len() < 192 {
+        let mut short = [0u16; 64];
+        return at_place(key, row, column, sheet, &mut short);
+    }
+    let mut starts = [0u16; 1024];
+    at_place(key, row, column, sheet, &mut starts)
+}
+
+// The same, with a table for the offsets of the key's arrays. Inner: as for `at_point`.
+fn at_place(key: &[u8], row: u32, column: u32, sheet: &mut [u32], starts: &mut [u16]) -> Evaluated
+    requires { ⌜ min 1024 (length (now key) / 3) ≤ length (now starts) ⌝ }
+    ensures answer { λ r. ⌜ evaluatedOutcome r ≡ celled (now (key .entry)) row column (now (sheet .entry)) .answer ⌝ }
+    ensures sheet { λ _. ⌜ now (sheet .exit) ≡ celled (now (key .entry)) row column (now (sheet .entry)) .sheet ⌝ }
+{
+    let checked = key::index(key, starts);
     let placed = judge::place(checked, row, column);
     let judged = judge::sheet(placed, sheet.len());
     match judged {
@@ -63,7 +98,8 @@ pub fn cell(key: &[u8], row: u32, column: u32, sheet: &mut [u32]) -> Evaluated
             let mut columns = [0u32; 30];
             point::bits(row, &mut rows);
             point::bits(column, &mut columns);
-            Evaluated::Values(pass::run(key, &starts, counts.arrays, &rows, &columns, sheet))
+            pass::run(key, starts, counts.arrays, &rows, &columns, sheet);
+            Evaluated::Values(pass::last(sheet, counts.arrays))
         }
     }
 }

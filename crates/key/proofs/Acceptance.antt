@@ -18,7 +18,7 @@ use Rattle.key.specs.Check.{checkedKey}
 use Rattle.key.specs.Encoding.{headRecord, arrayRecords, arraysRecords, keyRecords, bytesOfAll, keyBytes}
 use Rattle.key.specs.Index.{startsOf, Runs, Indexes}
 use Rattle.key.specs.KeyArrays.{arraysOf, keyArrays}
-use Rattle.key.specs.Reading.{behind, recordsIn}
+use Rattle.key.specs.Reading.{recordsIn}
 use Rattle.key.specs.declared.Counts.{Counts}
 use Rattle.key.proofs.Countings.{counts-key}
 use Rattle.key.proofs.Encodings.{arrays-back}

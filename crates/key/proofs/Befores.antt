@@ -12,8 +12,8 @@ use lib.Seq.{getD-at}
 use Rattle.records.specs.Kinds.{kindOf}
 use Rattle.records.specs.declared.Record.{Record}
 use Rattle.key.specs.Before.{openingIn, opened, openNow, headOf, countOf}
-use Rattle.key.specs.Rules.{notOpen}
-use Rattle.key.specs.declared.Opening.{Opening}
+use Rattle.rules.specs.Rules.{notOpen}
+use Rattle.rules.specs.declared.Opening.{Opening}
 use Rattle.key.proofs.Joined.{flatMap-append}
 
 pub count-append : (kind : ℕ) (records more : List Record) → countOf kind (records ++ more) ≡ countOf kind records + countOf kind more

@@ -7,7 +7,7 @@ use Rattle.arrays.specs.Arrays.{Cell, Call, Entries, cells, calls, Array}
 use Rattle.key.specs.Before.{openingIn, opened}
 use Rattle.key.specs.Encoding.{cellRecord, callRecord, openingRecord, entryRecords, arrayRecords, arraysRecords, keyRecords}
 use Rattle.key.specs.KeyArrays.{cellsFirst, callsFirst, arraysOf}
-use Rattle.key.specs.declared.Opening.{Opening}
+use Rattle.rules.specs.declared.Opening.{Opening}
 use Rattle.key.proofs.Joined.{flatMap-append}
 
 -- ---- the arrays back

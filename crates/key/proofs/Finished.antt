@@ -17,37 +17,37 @@ use Rattle.records.specs.declared.Record.{Record}
 use Rattle.records.proofs.Found.{found-taken}
 use Rattle.arrays.specs.Arrays.{Array}
 use Rattle.arrays.specs.Placing.{blocks}
-use Rattle.arrays.specs.WellFormed.{Each, WellFormed, LastOfShape}
+use Rattle.arrays.specs.WellFormed.{WellFormed, LastOfShape}
+use Rattle.rules.specs.Inner.{AllKept}
 use Rattle.key.specs.Before.{openNow}
 use Rattle.key.specs.Check.{firstBroken, rulesOf, rulesBehind, judgedBy, countsOf, judged}
 use Rattle.key.specs.Encoding.{keyRecords, bytesOfAll}
 use Rattle.key.specs.Reading.{Located, Reading, behind, readAt, readFrom, locatedIn, items}
-use Rattle.key.specs.Rules.{Rule, endRules}
+use Rattle.rules.specs.Rules.{Rule, endRules}
 use Rattle.key.specs.declared.Counts.{Counts}
-use Rattle.key.specs.declared.Opening.{Opening}
+use Rattle.rules.specs.declared.Opening.{Opening}
 use Rattle.key.proofs.Encodings.{openingOf}
 use Rattle.key.proofs.Grown.{grown}
 use Rattle.key.proofs.Growth.{before, Grown, opened-before}
-use Rattle.key.proofs.Kept.{Kept}
 use Rattle.key.proofs.Laid.{Onward, behind-onward, ends-or-not}
 use Rattle.key.proofs.Offsets.{offsetBehind}
 use Rattle.key.proofs.Past.{open-now}
 
 -- where rules and what follows them give a result, all of them are kept
 kept-given : {A : Type 0} (place : ℕ) (rules : List Rule) (rest : Outcome A) (a : A) → firstBroken place rules rest ≡ given a →
-    Each Kept rules × (rest ≡ given a)
+    AllKept rules × (rest ≡ given a)
 unfolding firstBroken
 kept-given place [] rest a e = (tt, e)
 kept-given place (rule ∷ rules) rest a e = go (rule .broken) refl e (kept-given place rules rest a)
   where
     go : (b : Bool) → rule .broken ≡ b → cond b (refuse (rule .reason) place) (firstBroken place rules rest) ≡ given a →
-        (firstBroken place rules rest ≡ given a → Each Kept rules × (rest ≡ given a)) → Each Kept (rule ∷ rules) × (rest ≡ given a)
+        (firstBroken place rules rest ≡ given a → AllKept rules × (rest ≡ given a)) → AllKept (rule ∷ rules) × (rest ≡ given a)
     go true is f later = absurd (given-not-refused (sym f))
     go false is f later = ((is, later f .0), later f .1)
 
 pub judged-given : {A : Type 0} (len : ℕ) (earlier : List Record) (x : Located) (rest : Outcome A) (a : A) →
     judgedBy len earlier x rest ≡ given a →
-    Each Kept (rulesOf earlier (x .item)) × Each Kept (rulesBehind (x .item) (x .next) len) × (rest ≡ given a)
+    AllKept (rulesOf earlier (x .item)) × AllKept (rulesBehind (x .item) (x .next) len) × (rest ≡ given a)
 judged-given len earlier x rest a e =
     let outer = kept-given (x .at) (rulesOf earlier (x .item)) (firstBroken (x .next) (rulesBehind (x .item) (x .next) len) rest) a e in
     let inner = kept-given (x .next) (rulesBehind (x .item) (x .next) len) rest a (outer .1) in
@@ -65,13 +65,13 @@ module _ (key : List ℕ) (n n' : ℕ) (counts : Counts) where
     pub whole : len ≤ offsetBehind at rest
 
   -- an end that keeps its rules
-  last-shaped : (arrays : List Array) → Each Kept (rulesOf (before n n' arrays) Record.End) → LastOfShape n n' arrays
+  last-shaped : (arrays : List Array) → AllKept (rulesOf (before n n' arrays) Record.End) → LastOfShape n n' arrays
   unfolding rulesOf
   last-shaped arrays kept =
-      let held = subst (λ (os : List Opening). Each Kept (endRules (record { rows = n; columns = n' }) (length os) (openNow os)))
+      let held = subst (λ (os : List Opening). AllKept (endRules (record { rows = n; columns = n' }) (length os) (openNow os)))
       (opened-before n n' arrays) kept in
       let some : 0 < length arrays = omega (arith, pos-of-ne-zero (eqb-false (length (map openingOf arrays)) 0 (held .0)), length-map arrays openingOf) in
-      let shaped = subst (λ (o : Opening). Each Kept (endRules (record { rows = n; columns = n' }) (length (map openingOf arrays)) o))
+      let shaped = subst (λ (o : Opening). AllKept (endRules (record { rows = n; columns = n' }) (length (map openingOf arrays)) o))
       (open-now arrays some) held in
       record {
         some-array = some;
@@ -79,7 +79,7 @@ module _ (key : List ℕ) (n n' : ℕ) (counts : Counts) where
         columns-equal = eqb-true _ _ (not-false _ (shaped .1 .1 .0));
       }
 
-  end-behind : (len next : ℕ) → Each Kept (rulesBehind Record.End next len) → len ≤ next
+  end-behind : (len next : ℕ) → AllKept (rulesBehind Record.End next len) → len ≤ next
   unfolding rulesBehind
   end-behind len next kept = ltb-false next len (kept .0)
 
@@ -141,12 +141,12 @@ module _ (key : List ℕ) (n n' : ℕ) (counts : Counts) where
           f
 
       judges : (r : Record) (next : ℕ) → next ≡ at + length (encoded r) → (r ≡ Record.End) ⊎ Onward r →
-          Each Kept (rulesOf (before n n' arrays) r) → Each Kept (rulesBehind r next len) →
+          AllKept (rulesOf (before n n' arrays) r) → AllKept (rulesBehind r next len) →
           judged len (before n n' arrays ++ (r ∷ [])) (behind r (readFrom steps key next)) ≡ given counts → Later →
           Finished len at (before n n' arrays) (r ∷ items (locatedIn (behind r (readFrom steps key next))))
       judges r next ahead (inl is) kept behind f later =
-          finished r next ahead is (last-shaped arrays (subst (λ (r : Record). Each Kept (rulesOf (before n n' arrays) r)) is kept))
-          (end-behind len next (subst (λ (r : Record). Each Kept (rulesBehind r next len)) is behind)) f
+          finished r next ahead is (last-shaped arrays (subst (λ (r : Record). AllKept (rulesOf (before n n' arrays) r)) is kept))
+          (end-behind len next (subst (λ (r : Record). AllKept (rulesBehind r next len)) is behind)) f
       judges r next ahead (inr on) kept behind f later = onward r next ahead on (grown n n' arrays r on kept well most) f later
 
       taken : (t : Outcome Found) → takenAt key at ≡ t →

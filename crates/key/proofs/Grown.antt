@@ -11,16 +11,16 @@ use Rattle.records.specs.declared.Record.{Record}
 use Rattle.records.specs.declared.Shape.{Shape}
 use Rattle.arrays.specs.Arrays.{Entries, cells, calls, Array, arrayAt}
 use Rattle.arrays.specs.Placing.{blocks}
-use Rattle.arrays.specs.WellFormed.{Each, EntriesFit, ArrayFits, WellFormed}
+use Rattle.arrays.specs.WellFormed.{EntriesFit, ArrayFits, WellFormed}
+use Rattle.rules.specs.Inner.{AllKept}
 use Rattle.key.specs.Before.{opened, openNow, openingAt}
 use Rattle.key.specs.Check.{rulesOf}
-use Rattle.key.specs.Rules.{openingRules, cellRules, callRules}
-use Rattle.key.specs.declared.Opening.{Opening}
+use Rattle.rules.specs.Rules.{openingRules, cellRules, callRules}
+use Rattle.rules.specs.declared.Opening.{Opening}
 use Rattle.key.proofs.Befores.{some-open}
 use Rattle.key.proofs.Encodings.{arrayWith, openingOf}
 use Rattle.key.proofs.GrownEntries.{cell-grown, call-grown}
 use Rattle.key.proofs.Growth.{before, Grown, opened-before, opening-grown}
-use Rattle.key.proofs.Kept.{Kept}
 use Rattle.key.proofs.Laid.{Onward}
 use Rattle.key.proofs.Past.{open-now}
 
@@ -37,7 +37,7 @@ module _ (n n' : ℕ) where
   module _ (arrays : List Array) (shape : Shape) where
     abbrev Opens : Type 0
     Opens =
-        Each Kept
+        AllKept
         (openingRules (eqb (length (before n n' arrays)) 0) (record { rows = n; columns = n' }) (length (opened (before n n' arrays))) shape)
 
     opening-fits : (none : Entries) → EntriesFit blocks blocks arrays (length arrays) (shape .rows) (shape .columns) none → Opens →
@@ -55,7 +55,7 @@ module _ (n n' : ℕ) where
         (arith, leb-false 1024 (length (opened (before n n' arrays))) (kept .1 .0), ap length (opened-before n n' arrays), length-map arrays openingOf)
 
   -- a record that keeps its rules behind some arrays makes them others, unless it ends them
-  pub grown : (arrays : List Array) (r : Record) → Onward r → Each Kept (rulesOf (before n n' arrays) r) →
+  pub grown : (arrays : List Array) (r : Record) → Onward r → AllKept (rulesOf (before n n' arrays) r) →
       WellFormed blocks blocks n n' arrays → length arrays ≤ 1024 → Grown n n' (before n n' arrays ++ (r ∷ []))
   unfolding rulesOf
   grown arrays (Record.Head shape) onward kept well most =
@@ -67,17 +67,17 @@ module _ (n n' : ℕ) where
       opening-grown n n' arrays (Record.Recursive shape) shape (calls []) refl (opening-fits arrays shape (calls []) tt kept) well
       (opening-room arrays shape kept)
   grown arrays (Record.Cell c) onward kept well most =
-      let held = subst (λ (os : List Opening). Each Kept (cellRules (openNow os) c)) (opened-before n n' arrays) kept in
+      let held = subst (λ (os : List Opening). AllKept (cellRules (openNow os) c)) (opened-before n n' arrays) kept in
       let some : 0 < length arrays =
       omega (arith, some-open (map openingOf arrays) 2 (omega arith) (held .0), length-map arrays openingOf) in
       let e = last-apart arrays some in
       let a : Array = arrayAt arrays (length arrays - 1) in
       subst (λ (us : List Array). Grown n n' (before n n' us ++ (Record.Cell c ∷ []))) (sym e)
       (cell-grown n n' (take (length arrays - 1) arrays) (a .row-bits) (a .column-bits) (a .entries) c
-      (subst (λ (o : Opening). Each Kept (cellRules o c)) (open-now arrays some) held)
+      (subst (λ (o : Opening). AllKept (cellRules o c)) (open-now arrays some) held)
       (subst (WellFormed blocks blocks n n') e well) (subst (λ (us : List Array). length us ≤ 1024) e most))
   grown arrays (Record.Call c) onward kept well most =
-      let held = subst (λ (os : List Opening). Each Kept (callRules (openNow os) (length os - 1) (openingAt os (c .id) .shape) c))
+      let held = subst (λ (os : List Opening). AllKept (callRules (openNow os) (length os - 1) (openingAt os (c .id) .shape) c))
       (opened-before n n' arrays) kept in
       let some : 0 < length arrays =
       omega (arith, some-open (map openingOf arrays) 3 (omega arith) (held .0), length-map arrays openingOf) in
@@ -87,10 +87,10 @@ module _ (n n' : ℕ) where
       omega (arith, length-map arrays openingOf, length-take-le (length arrays - 1) arrays (omega arith)) in
       subst (λ (us : List Array). Grown n n' (before n n' us ++ (Record.Call c ∷ []))) (sym e)
       (call-grown n n' (take (length arrays - 1) arrays) (a .row-bits) (a .column-bits) (a .entries) c
-      (subst (λ (us : List Array). Each Kept
+      (subst (λ (us : List Array). AllKept
       (callRules (openingOf a) (length (take (length arrays - 1) arrays)) (openingAt (map openingOf us) (c .id) .shape) c)) e
-      (subst (λ (m : ℕ). Each Kept (callRules (openingOf a) m (openingAt (map openingOf arrays) (c .id) .shape) c)) own
-      (subst (λ (o : Opening). Each Kept
+      (subst (λ (m : ℕ). AllKept (callRules (openingOf a) m (openingAt (map openingOf arrays) (c .id) .shape) c)) own
+      (subst (λ (o : Opening). AllKept
       (callRules o (length (map openingOf arrays) - 1) (openingAt (map openingOf arrays) (c .id) .shape) c))
       (open-now arrays some) held)))
       (subst (WellFormed blocks blocks n n') e well) (subst (λ (us : List Array). length us ≤ 1024) e most))

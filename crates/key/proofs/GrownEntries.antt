@@ -10,22 +10,22 @@ use Rattle.records.specs.declared.Cell.{Cell as CellRecord}
 use Rattle.records.specs.declared.Record.{Record}
 use Rattle.arrays.specs.Arrays.{Entries, cells, calls, Array, arrayAt}
 use Rattle.arrays.specs.Placing.{blocks}
-use Rattle.arrays.specs.WellFormed.{Each, CellFits, CallFits, WellFormed}
+use Rattle.arrays.specs.WellFormed.{CellFits, CallFits, WellFormed}
 use Rattle.arrays.proofs.Eaches.{each-append}
 use Rattle.arrays.proofs.Growing.{array-removed}
+use Rattle.rules.specs.Inner.{AllKept}
 use Rattle.key.specs.Before.{openingAt}
 use Rattle.key.specs.Encoding.{cellRecord, callRecord}
 use Rattle.key.specs.KeyArrays.{cellIn, callIn}
-use Rattle.key.specs.Rules.{cellRules, callRules}
-use Rattle.key.specs.declared.Opening.{Opening}
+use Rattle.rules.specs.Rules.{cellRules, callRules}
+use Rattle.rules.specs.declared.Opening.{Opening}
 use Rattle.key.proofs.Encodings.{arrayWith, openingOf}
 use Rattle.key.proofs.Growth.{before, Grown, entry-grown}
-use Rattle.key.proofs.Kept.{Kept}
 use Rattle.key.proofs.Past.{opening-at}
 
 module _ (n n' : ℕ) where
   pub cell-grown : (arrays : List Array) (k k' : ℕ) (entries : Entries) (c : CellRecord) →
-      Each Kept (cellRules (openingOf (arrayWith k k' entries)) c) →
+      AllKept (cellRules (openingOf (arrayWith k k' entries)) c) →
       WellFormed blocks blocks n n' (arrays ++ (arrayWith k k' entries ∷ [])) →
       length (arrays ++ (arrayWith k k' entries ∷ [])) ≤ 1024 →
       Grown n n' (before n n' (arrays ++ (arrayWith k k' entries ∷ [])) ++ (Record.Cell c ∷ []))
@@ -52,7 +52,7 @@ module _ (n n' : ℕ) where
       })
 
   pub call-grown : (arrays : List Array) (k k' : ℕ) (entries : Entries) (c : CallRecord) →
-      Each Kept
+      AllKept
       (callRules (openingOf (arrayWith k k' entries)) (length arrays)
       (openingAt (map openingOf (arrays ++ (arrayWith k k' entries ∷ []))) (c .id) .shape) c) →
       WellFormed blocks blocks n n' (arrays ++ (arrayWith k k' entries ∷ [])) →
@@ -80,9 +80,9 @@ module _ (n n' : ℕ) where
           (omega (arith, earlier, length-append arrays (arrayWith k k' (calls list) ∷ [])))
           ∙ ap openingOf (List·getD-append arrays (arrayWith k k' (calls list) ∷ []) _ (c .id) earlier)
 
-      held : Each Kept (callRules (openingOf (arrayWith k k' (calls list))) (length arrays) (openingOf (arrayAt arrays (c .id)) .shape) c)
+      held : AllKept (callRules (openingOf (arrayWith k k' (calls list))) (length arrays) (openingOf (arrayAt arrays (c .id)) .shape) c)
       held =
-          subst (λ (o : Opening). Each Kept (callRules (openingOf (arrayWith k k' (calls list))) (length arrays) (o .shape) c)) called kept
+          subst (λ (o : Opening). AllKept (callRules (openingOf (arrayWith k k' (calls list))) (length arrays) (o .shape) c)) called kept
 
       fits : CallFits blocks blocks arrays (length arrays) k k' (callIn c)
       fits =

@@ -1,6 +1,5 @@
 -- Records that keep all their rules are accepted.
 use Prim.Native.Nat.{ℕ, _+_, _≤_}
-use mathlib.Core.Bool.{false}
 use mathlib.Core.List.{flatMap, List, [], _∷_, _++_, append-nil}
 use mathlib.Core.Path.{_≡_, refl, ap, _∙_}
 use native.Mathlib.Omega.{arith}
@@ -11,17 +10,15 @@ use Rattle.refusal.specs.Outcome.{Outcome, given}
 use Rattle.records.specs.Kinds.{encoded}
 use Rattle.records.specs.declared.Record.{Record}
 use Rattle.arrays.specs.WellFormed.{Each}
+use Rattle.rules.specs.Inner.{AllKept}
 use Rattle.key.specs.Check.{firstBroken, rulesOf, rulesBehind, judgedBy, judged, countsOf}
 use Rattle.key.specs.Encoding.{bytesOfAll}
 use Rattle.key.specs.Reading.{Located}
-use Rattle.key.specs.Rules.{Rule}
+use Rattle.rules.specs.Rules.{Rule}
 use Rattle.key.specs.declared.Counts.{Counts}
 use Rattle.key.proofs.Laid.{laid, Onward, behind-onward}
 
-abbrev pub Kept : Rule → Type 0
-Kept rule = rule .broken ≡ false
-
-all-kept : {A : Type 0} (place : ℕ) (rules : List Rule) (rest : Outcome A) → Each Kept rules →
+all-kept : {A : Type 0} (place : ℕ) (rules : List Rule) (rest : Outcome A) → AllKept rules →
     firstBroken place rules rest ≡ rest
 unfolding firstBroken
 all-kept place [] rest kept = refl
@@ -30,7 +27,7 @@ all-kept place (rule ∷ rules) rest kept = rw (kept .0) (all-kept place rules r
 -- each of some records keeps its rules behind those before it
 abbrev pub Keeping : List Record → List Record → Type 0
 Keeping before [] = Unit {0}
-Keeping before (r ∷ records) = Each Kept (rulesOf before r) × Keeping (before ++ (r ∷ [])) records
+Keeping before (r ∷ records) = AllKept (rulesOf before r) × Keeping (before ++ (r ∷ [])) records
 
 pub keeping-append : (before records more : List Record) → Keeping before records → Keeping (before ++ records) more →
     Keeping before (records ++ more)
@@ -39,7 +36,7 @@ keeping-append before (r ∷ records) more kept rest =
     (kept .0, keeping-append (before ++ (r ∷ [])) records more (kept .1) (rw (append-snoc before r records) rest))
 
 -- nothing but an end is held to what stands behind it
-behind-kept : (len next : ℕ) (r : Record) → Onward r → Each Kept (rulesBehind r next len)
+behind-kept : (len next : ℕ) (r : Record) → Onward r → AllKept (rulesBehind r next len)
 unfolding rulesBehind
 behind-kept len next (Record.Head shape) onward = tt
 behind-kept len next (Record.Sparse shape) onward = tt
@@ -48,12 +45,12 @@ behind-kept len next (Record.Cell cell) onward = tt
 behind-kept len next (Record.Call call) onward = tt
 behind-kept len next Record.End onward = absurd onward
 
-end-behind-kept : (len next : ℕ) → len ≤ next → Each Kept (rulesBehind Record.End next len)
+end-behind-kept : (len next : ℕ) → len ≤ next → AllKept (rulesBehind Record.End next len)
 unfolding rulesBehind
 end-behind-kept len next whole = (le-ltb next len whole, tt)
 
-judged-kept : (len : ℕ) (before : List Record) (x : Located) (rest : Outcome Counts) → Each Kept (rulesOf before (x .item)) →
-    Each Kept (rulesBehind (x .item) (x .next) len) → judgedBy len before x rest ≡ rest
+judged-kept : (len : ℕ) (before : List Record) (x : Located) (rest : Outcome Counts) → AllKept (rulesOf before (x .item)) →
+    AllKept (rulesBehind (x .item) (x .next) len) → judgedBy len before x rest ≡ rest
 judged-kept len before x rest kept behind =
     all-kept (x .at) (rulesOf before (x .item)) (firstBroken (x .next) (rulesBehind (x .item) (x .next) len) rest) kept
     ∙ all-kept (x .next) (rulesBehind (x .item) (x .next) len) rest behind

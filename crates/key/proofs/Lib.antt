@@ -22,9 +22,14 @@ pub mod Made
 pub mod Acceptance
 pub mod Few
 pub mod Tables
+pub mod Openings
 pub mod Verdicts
 pub mod Seeing
 pub mod SeenNext
 pub mod Standing
 pub mod Walk
+pub mod RunPassed
+pub mod RunTried
+pub mod RunGrows
+pub mod RunStops
 pub mod Promises

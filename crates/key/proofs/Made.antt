@@ -15,14 +15,13 @@ use Rattle.records.specs.Take.{Found, takenAt}
 use Rattle.records.specs.declared.Record.{Record}
 use Rattle.records.specs.declared.Shape.{Shape}
 use Rattle.records.proofs.Found.{found-taken}
-use Rattle.arrays.specs.WellFormed.{Each}
+use Rattle.rules.specs.Inner.{AllKept}
 use Rattle.key.specs.Check.{rulesOf, judged, checkedKey}
 use Rattle.key.specs.Encoding.{headRecord}
 use Rattle.key.specs.Reading.{behind, readAt, readFrom, readingOf, locatedIn, items, recordsIn}
 use Rattle.key.specs.declared.Counts.{Counts}
 use Rattle.key.proofs.Finished.{Finished, from, judged-given}
 use Rattle.key.proofs.Growth.{before}
-use Rattle.key.proofs.Kept.{Kept}
 
 -- the first record of an accepted key is a head of at most 30 bits
 record Headed (r : Record) : Type 0 where
@@ -31,7 +30,7 @@ record Headed (r : Record) : Type 0 where
   pub rows : shape .rows ≤ 30
   pub columns : shape .columns ≤ 30
 
-first-head : (r : Record) → Each Kept (rulesOf [] r) → Headed r
+first-head : (r : Record) → AllKept (rulesOf [] r) → Headed r
 unfolding rulesOf flatMap
 first-head (Record.Head shape) kept =
     record {

@@ -9,8 +9,7 @@ use Rattle.records.specs.declared.Record.{Record}
 use Rattle.arrays.specs.Arrays.{Entries, cells, calls, Array}
 use Rattle.key.specs.Before.{openingIn}
 use Rattle.key.specs.Encoding.{cellRecord, callRecord, openingRecord, entryRecords, arrayRecords, arraysRecords, bytesOfAll}
-use Rattle.key.specs.Reading.{behind}
-use Rattle.key.specs.declared.Opening.{Opening}
+use Rattle.rules.specs.declared.Opening.{Opening}
 use Rattle.key.proofs.Joined.{flatMap-append}
 
 -- the offset behind some records that begin at an offset

@@ -9,7 +9,7 @@ use lib.ListN.{length, getD, length-append, length-map}
 use Rattle.records.specs.declared.Record.{Record}
 use Rattle.arrays.specs.Arrays.{cells, Array, arrayAt}
 use Rattle.key.specs.Before.{openingIn, opened, openingAt, openNow, headOf}
-use Rattle.key.specs.declared.Opening.{Opening}
+use Rattle.rules.specs.declared.Opening.{Opening}
 use Rattle.key.proofs.Befores.{open-last, head-stays}
 use Rattle.key.proofs.Encodings.{openingOf}
 use Rattle.key.proofs.Joined.{flatMap-append}

@@ -1,13 +1,15 @@
 -- What the index promises, from what the walk finds.
-use Prim.Native.Nat.{ℕ, _<_}
+use Prim.Native.Nat.{ℕ, _≤_, _<_}
 use mathlib.Core.List.{List}
-use mathlib.Core.Path.{_≡_, sym, ap, ap₂, _∙_}
+use mathlib.Core.Path.{_≡_, sym, ap, _∙_}
 use borrow.Author.Tests.{lt-ltb}
-use lib.ListN.{length, getD, drop, List·getD-append}
-use Rattle.refusal.specs.Outcome.{Outcome, given, refused, refuse}
+use lib.ListN.{length, take}
+use lib.Seq.{length-take-le}
+use Rattle.refusal.specs.Outcome.{given, refused, refuse}
 use Rattle.refusal.specs.declared.Reason.{Reason}
+use Rattle.refusal.proofs.Outcomes.{given-not-refused}
 use Rattle.key.specs.Check.{checkedOutcome, checkedKey}
-use Rattle.key.specs.Index.{startsOf, written, indexed, indexedKey}
+use Rattle.key.specs.Index.{startsOf, Indexing}
 use Rattle.key.specs.declared.Checked.{Checked}
 use Rattle.key.specs.declared.Counts.{Counts}
 
@@ -15,25 +17,16 @@ pub too-long : (key : List ℕ) → 65536 < length key → checkedKey key ≡ re
 unfolding checkedKey
 too-long key long = simp (lt-ltb 65536 (length key) long)
 
-module _ (key starts : List ℕ) (answer : Checked) where
-  abbrev Promise : List ℕ → Type 0
-  Promise after = (checkedOutcome answer ≡ checkedKey key) × (after ≡ indexedKey key starts)
+module _ (key : List ℕ) (answer : Checked) (after : List ℕ) where
+  abbrev Promise : Type 0
+  Promise = (checkedOutcome answer ≡ checkedKey key) × Indexing key after
 
-  pub refused-promise : (number place : ℕ) (after : List ℕ) → checkedOutcome answer ≡ refused number place →
-      checkedKey key ≡ refused number place → after ≡ starts → Promise after
-  unfolding indexed
-  refused-promise number place after e f w = (e ∙ sym f, w ∙ sym (ap (λ (o : Outcome Counts). indexed o (startsOf key) starts) f))
+  pub refused-promise : (number place : ℕ) → checkedOutcome answer ≡ refused number place → checkedKey key ≡ refused number place →
+      Promise
+  refused-promise number place e f = (e ∙ sym f, λ counts g. absurd (given-not-refused (sym g ∙ f)))
 
-  pub accepted-promise : (counts : Counts) (found after : List ℕ) → checkedOutcome answer ≡ given counts → checkedKey key ≡ given counts →
-      after ≡ written found starts → startsOf key ≡ found → Promise after
-  unfolding indexed
-  accepted-promise counts found after e f w s =
-      (e ∙ sym f, w ∙ sym (ap₂ (λ (o : Outcome Counts) (x : List ℕ). indexed o x starts) f s))
-
--- where a key is accepted, place i of the table holds the offset of array i
-pub table-at : (key table : List ℕ) (counts : Counts) → checkedKey key ≡ given counts → (i : ℕ) → i < length (startsOf key) →
-    getD (indexedKey key table) i 0 ≡ getD (startsOf key) i 0
-unfolding indexed
-table-at key table counts e i l =
-    ap (λ (o : Outcome Counts). getD (indexed o (startsOf key) table) i 0) e
-    ∙ List·getD-append (startsOf key) (drop (length (startsOf key)) table) 0 i l
+  -- the first places hold the offsets, as many as there are
+  pub accepted-promise : (counts : Counts) (arrays : ℕ) → checkedOutcome answer ≡ given counts → checkedKey key ≡ given counts →
+      arrays ≤ length after → startsOf key ≡ take arrays after → Promise
+  accepted-promise counts arrays e f room s =
+      (e ∙ sym f, λ _ _. ap (λ (n : ℕ). take n after) (ap length s ∙ length-take-le arrays after room) ∙ sym s)

@@ -11,19 +11,20 @@ use Rattle.records.specs.declared.Record.{Record}
 use Rattle.arrays.specs.Arrays.{Cell, Call, Entries, cells, calls, Array, arrayAt}
 use Rattle.arrays.specs.Placing.{blocks}
 use Rattle.arrays.specs.WellFormed.{Each, CellFits, CallFits, EntriesFit, LastOfShape}
+use Rattle.rules.specs.Inner.{AllKept}
 use Rattle.key.specs.Before.{openingIn, opened, openingAt, openNow, headOf}
 use Rattle.key.specs.Check.{rulesOf}
 use Rattle.key.specs.Encoding.{headRecord, cellRecord, callRecord, openingRecord, entryRecords}
-use Rattle.key.specs.Rules.{unlike, openingRules}
-use Rattle.key.specs.declared.Opening.{Opening}
+use Rattle.rules.specs.Rules.{unlike, openingRules}
+use Rattle.rules.specs.declared.Opening.{Opening}
 use Rattle.key.proofs.Encodings.{arrayWith, openingOf}
-use Rattle.key.proofs.Kept.{Kept, Keeping}
+use Rattle.key.proofs.Kept.{Keeping}
 use Rattle.key.proofs.Numbers.{not-nought}
 use Rattle.key.proofs.Past.{Past, past-entry, not-first, opening-at, open-now, array-open}
 
 -- ---- the head, an opening and the end
 
-pub head-kept : (n n' : ℕ) → n ≤ 30 → n' ≤ 30 → Each Kept (rulesOf [] (headRecord n n'))
+pub head-kept : (n n' : ℕ) → n ≤ 30 → n' ≤ 30 → AllKept (rulesOf [] (headRecord n n'))
 unfolding rulesOf
 head-kept n n' l l' = (refl, omega (arith, lt-leb))
 
@@ -36,7 +37,7 @@ opening-rules k k' (cells list) before = refl
 opening-rules k k' (calls list) before = refl
 
 pub opening-kept : (n n' k k' : ℕ) (entries : Entries) (done : List Array) (before : List Record) → Past n n' done before →
-    length done < 1024 → k ≤ n → k' ≤ n' → Each Kept (rulesOf before (openingRecord k k' entries))
+    length done < 1024 → k ≤ n → k' ≤ n' → AllKept (rulesOf before (openingRecord k k' entries))
 opening-kept n n' k k' entries done before past few l l' =
     rw (opening-rules k k' entries before, past .head)
     (not-first n n' before done past, omega (arith, lt-leb, ap length (past .openings), length-map done openingOf))
@@ -46,7 +47,7 @@ alike : (n k : ℕ) → k ≡ n → unlike n k ≡ false
 alike n k e = ap not (eq-eqb k n e)
 
 pub end-kept : (n n' : ℕ) (all : List Array) (before : List Record) → Past n n' all before → LastOfShape n n' all →
-    Each Kept (rulesOf before Record.End)
+    AllKept (rulesOf before Record.End)
 unfolding rulesOf
 end-kept n n' all before past last =
     rw (past .head, past .openings, open-now all (last .some-array))
@@ -57,21 +58,21 @@ end-kept n n' all before past last =
 -- a cell behind a sparse opening, and a call behind a recursive one
 cell-kept : (k k' : ℕ) (before : List Record) (c : Cell) →
     openNow (opened before) ≡ record { kind = 0x02; shape = record { rows = k; columns = k' } } → CellFits k k' c →
-    Each Kept (rulesOf before (cellRecord c))
+    AllKept (rulesOf before (cellRecord c))
 unfolding rulesOf
 cell-kept k k' before c now fits = rw now (refl, omega (arith, lt-leb, fits))
 
 call-kept : (all : List Array) (i k k' : ℕ) (before : List Record) (c : Call) →
     openNow (opened before) ≡ record { kind = 0x03; shape = record { rows = k; columns = k' } } →
     length (opened before) - 1 ≡ i → openingAt (opened before) (c .id) ≡ openingOf (arrayAt all (c .id)) →
-    CallFits blocks blocks all i k k' c → Each Kept (rulesOf before (callRecord c))
+    CallFits blocks blocks all i k k' c → AllKept (rulesOf before (callRecord c))
 unfolding rulesOf
 call-kept all i k k' before c now own called fits = rw (now, own, called) (refl, omega (arith, lt-leb, fits))
 
 -- entries that open no array, each of which keeps its rules behind the same openings
 list-kept : (n n' : ℕ) (arrays : List Array) {A : Type 0} (item : A → Record) (P : A → Type 0) →
     ((x : A) → openingIn (item x) ≡ []) →
-    ((before : List Record) (x : A) → Past n n' arrays before → P x → Each Kept (rulesOf before (item x))) →
+    ((before : List Record) (x : A) → Past n n' arrays before → P x → AllKept (rulesOf before (item x))) →
     (list : List A) (before : List Record) → Past n n' arrays before → Each P list → Keeping before (map item list)
 list-kept n n' arrays item P none keeps [] before past fit = tt
 list-kept n n' arrays item P none keeps (x ∷ list) before past fit = (

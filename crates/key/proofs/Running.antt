@@ -18,7 +18,7 @@ use Rattle.key.specs.Before.{openingIn}
 use Rattle.key.specs.Encoding.{arrayRecords, arraysRecords, bytesOfAll}
 use Rattle.key.specs.Index.{startsIn, Runs}
 use Rattle.key.specs.Reading.{Reading, behind, readAt, readFrom, locatedIn, items}
-use Rattle.key.specs.declared.Opening.{Opening}
+use Rattle.rules.specs.declared.Opening.{Opening}
 use Rattle.key.proofs.Laid.{Onward, ends-or-not, behind-onward}
 use Rattle.key.proofs.Offsets.{offsetBehind, behind-cons, behind-append, startsFrom, arrayStarts, first-bound}
 

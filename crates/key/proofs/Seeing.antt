@@ -2,57 +2,63 @@
 use Prim.Native.Nat.{ℕ, _-_}
 use mathlib.Core.Bool.{true, false}
 use mathlib.Core.List.{flatMap, List, [], _∷_, _++_, append-nil}
-use mathlib.Core.Path.{_≡_, refl, sym, ap, ap₂, subst, _∙_}
+use mathlib.Core.Path.{_≡_, refl, sym, ap, subst, _∙_}
 use native.Mathlib.Omega.{arith}
 use borrow.Author.Tests.{eqb-false}
 use lib.ListN.{length}
 use Rattle.refusal.specs.Outcome.{Outcome}
 use Rattle.records.specs.declared.Record.{Record}
-use Rattle.arrays.specs.WellFormed.{Each}
+use Rattle.records.specs.declared.Shape.{Shape}
 use Rattle.key.specs.Before.{openingIn, opened, openNow, headOf, countOf}
 use Rattle.key.specs.Check.{countsOf, firstBroken, rulesOf, rulesBehind, judgedBy}
-use Rattle.key.specs.Inner.{countsSeen, isEnd, heldTo, rulesSeen, verdictOn, seenIn, rowsIn, columnsIn}
-use Rattle.key.specs.Rules.{Rule, callRules}
-use Rattle.key.specs.declared.rules.Verdict.{Verdict}
+use Rattle.rules.specs.Inner.{heldTo, AllKept}
+use Rattle.key.specs.Inner.{ShapesStand, countsSeen, isEnd, rulesSeen, verdictOn, seenIn}
+use Rattle.rules.specs.Rules.{Rule, callRules}
+use Rattle.rules.specs.declared.Verdict.{Verdict}
+use Rattle.key.specs.declared.seen.Seen.{Seen}
 use Rattle.key.proofs.Befores.{count-append}
 use Rattle.key.proofs.Joined.{flatMap-append}
-use Rattle.key.proofs.Kept.{Kept}
 use Rattle.key.proofs.Laid.{Onward}
-use Rattle.key.proofs.Tables.{Holds}
-use Rattle.key.proofs.Verdicts.{settled, held-settled, held-kept}
+use Rattle.key.proofs.Openings.{called-shape}
+use Rattle.rules.proofs.Verdicts.{held-kept}
+use Rattle.key.proofs.Verdicts.{settled, held-settled}
 
 -- the rules by what was seen are those of the definition
-rules-seen : (before : List Record) (rows columns : List ℕ) →
-    Holds rowsIn rows (opened before) → Holds columnsIn columns (opened before) → (item : Record) →
-    rulesSeen (seenIn before) rows columns item ≡ rulesOf before item
+rules-seen : (before : List Record) (key starts : List ℕ) → ShapesStand key starts (opened before) → (item : Record) →
+    rulesSeen (seenIn before) key starts item ≡ rulesOf before item
 unfolding rulesOf
-rules-seen before rows columns r c (Record.Head shape) = refl
-rules-seen before rows columns r c (Record.Sparse shape) = refl
-rules-seen before rows columns r c (Record.Recursive shape) = refl
-rules-seen before rows columns r c (Record.Cell cell) = refl
-rules-seen before rows columns r c (Record.Call call) =
-    ap₂ (λ (K K' : ℕ). callRules (openNow (opened before)) (length (opened before) - 1) (record { rows = K; columns = K' }) call)
-    (r (call .id)) (c (call .id))
-rules-seen before rows columns r c Record.End = refl
+rules-seen before key starts stand (Record.Head shape) = refl
+rules-seen before key starts stand (Record.Sparse shape) = refl
+rules-seen before key starts stand (Record.Recursive shape) = refl
+rules-seen before key starts stand (Record.Cell cell) = refl
+rules-seen before key starts stand (Record.Call call) =
+    ap (λ (called : Shape). callRules (openNow (opened before)) (length (opened before) - 1) called call)
+    (called-shape key starts (opened before) stand (call .id))
+rules-seen before key starts stand Record.End = refl
 
-module _ (before : List Record) (rows columns : List ℕ) (r : Holds rowsIn rows (opened before))
-    (c : Holds columnsIn columns (opened before)) (len at next : ℕ) (item : Record) where
+-- where the verdict is that the rules are kept, they are: by what was seen
+pub rules-kept : (seen : Seen) (key starts : List ℕ) (at next : ℕ) (item : Record) →
+    verdictOn seen key starts at next item ≡ Verdict.Kept → AllKept (rulesSeen seen key starts item)
+rules-kept seen key starts at next item e =
+    held-kept Verdict.Kept at (rulesSeen seen key starts item)
+    (held-kept (heldTo Verdict.Kept at (rulesSeen seen key starts item)) next (rulesBehind item next (length key)) e .0) .1
+
+module _ (before : List Record) (key starts : List ℕ) (stand : ShapesStand key starts (opened before)) (at next : ℕ)
+    (item : Record) where
   -- the code's verdict means what the definition says
   pub verdict-judges : {A : Type 0} (rest : Outcome A) →
-      settled (verdictOn (seenIn before) rows columns len at next item) rest ≡
-      judgedBy len before (record { item = item; at = at; next = next }) rest
+      settled (verdictOn (seenIn before) key starts at next item) rest ≡
+      judgedBy (length key) before (record { item = item; at = at; next = next }) rest
   verdict-judges rest =
-      held-settled (heldTo Verdict.Kept at (rulesSeen (seenIn before) rows columns item)) next (rulesBehind item next len) rest
-      ∙ held-settled Verdict.Kept at (rulesSeen (seenIn before) rows columns item) (firstBroken next (rulesBehind item next len) rest)
-      ∙ ap (λ (rules : List Rule). firstBroken at rules (firstBroken next (rulesBehind item next len) rest))
-      (rules-seen before rows columns r c item)
+      held-settled (heldTo Verdict.Kept at (rulesSeen (seenIn before) key starts item)) next (rulesBehind item next (length key)) rest
+      ∙ held-settled Verdict.Kept at (rulesSeen (seenIn before) key starts item)
+      (firstBroken next (rulesBehind item next (length key)) rest)
+      ∙ ap (λ (rules : List Rule). firstBroken at rules (firstBroken next (rulesBehind item next (length key)) rest))
+      (rules-seen before key starts stand item)
 
-  -- where the verdict is that the rules are kept, they are
-  pub verdict-kept : verdictOn (seenIn before) rows columns len at next item ≡ Verdict.Kept → Each Kept (rulesOf before item)
-  verdict-kept e =
-      let outer = held-kept (heldTo Verdict.Kept at (rulesSeen (seenIn before) rows columns item)) next (rulesBehind item next len) e in
-      subst (Each Kept) (rules-seen before rows columns r c item)
-      (held-kept Verdict.Kept at (rulesSeen (seenIn before) rows columns item) (outer .0) .1)
+  -- and by the definition
+  pub verdict-kept : verdictOn (seenIn before) key starts at next item ≡ Verdict.Kept → AllKept (rulesOf before item)
+  verdict-kept e = subst AllKept (rules-seen before key starts stand item) (rules-kept (seenIn before) key starts at next item e)
 
 -- ---- the end
 

@@ -5,18 +5,19 @@ use mathlib.Core.List.{flatMap, List, [], _∷_, _++_, append-nil}
 use mathlib.Core.Path.{_≡_, refl, sym, ap, _∙_}
 use native.Mathlib.Nat.{pos-of-ne-zero}
 use native.Mathlib.Omega.{arith}
-use borrow.Author.Tests.{eqb-false, eqb-true, leb-false, not-false}
+use borrow.Author.Tests.{eqb-false, eqb-true, ltb-false, leb-false, not-false}
 use lib.Dec.{eqb}
 use lib.ListN.{length, length-append}
 use Rattle.records.specs.declared.Record.{Record}
-use Rattle.arrays.specs.WellFormed.{Each}
+use Rattle.records.specs.declared.Shape.{Shape}
 use Rattle.key.specs.Before.{openingIn, opened, openNow, headOf, countOf}
 use Rattle.key.specs.Check.{rulesOf}
+use Rattle.rules.specs.Inner.{AllKept, Narrow}
 use Rattle.key.specs.Inner.{seenIn, after}
-use Rattle.key.specs.Rules.{notOpen}
-use Rattle.key.specs.declared.Opening.{Opening}
+use Rattle.rules.specs.Rules.{notOpen, openingRules}
+use Rattle.rules.specs.declared.Opening.{Opening}
+use Rattle.key.specs.declared.seen.Seen.{Seen}
 use Rattle.key.proofs.Befores.{opened-one, opened-most, count-append, open-last, head-stays, some-open}
-use Rattle.key.proofs.Kept.{Kept}
 use Rattle.key.proofs.Laid.{Onward}
 use Rattle.key.proofs.Numbers.{not-nought}
 
@@ -86,7 +87,7 @@ module _ (before : List Record) where
   count-more kind item one = omega (arith, count-append kind before (item ∷ []))
 
 -- what is seen behind a record that keeps its rules and is no end
-pub seen-next : (before : List Record) (item : Record) → Onward item → Each Kept (rulesOf before item) →
+pub seen-next : (before : List Record) (item : Record) → Onward item → AllKept (rulesOf before item) →
     after (seenIn before) item ≡ seenIn (before ++ (item ∷ []))
 unfolding countOf rulesOf flatMap
 seen-next [] (Record.Head shape) on kept = refl
@@ -109,15 +110,38 @@ seen-next before (Record.Call call) on kept =
 seen-next before Record.End on kept = absurd on
 
 -- at most 1,024 arrays are opened behind a record that keeps its rules
-pub arrays-next : (before : List Record) (item : Record) → Each Kept (rulesOf before item) → length (opened before) ≤ 1024 →
+pub arrays-next : (before : List Record) (item : Record) → AllKept (rulesOf before item) → length (opened before) ≤ 1024 →
     length (opened before ++ openingIn item) ≤ 1024
 unfolding rulesOf
 arrays-next before item kept most = omega (arith, length-append (opened before) (openingIn item), go item kept)
   where
-    go : (item : Record) → Each Kept (rulesOf before item) → length (opened before) + length (openingIn item) ≤ 1024
+    go : (item : Record) → AllKept (rulesOf before item) → length (opened before) + length (openingIn item) ≤ 1024
     go (Record.Head shape) kept = omega (arith, most)
     go (Record.Sparse shape) kept = omega (arith, leb-false 1024 (length (opened before)) (kept .1 .0))
     go (Record.Recursive shape) kept = omega (arith, leb-false 1024 (length (opened before)) (kept .1 .0))
     go (Record.Cell cell) kept = omega (arith, most)
     go (Record.Call call) kept = omega (arith, most)
     go Record.End kept = omega (arith, most)
+
+-- the head and the array that is open have at most 30 bits a side behind a record that keeps its rules
+pub narrow-next : (before : List Record) (seen : Seen) → seen ≡ seenIn before → (item : Record) → AllKept (rulesOf before item) →
+    Narrow (seen .head) → Narrow (seen .array .shape) → Narrow (after seen item .head) × Narrow (after seen item .array .shape)
+unfolding rulesOf
+narrow-next before seen is item kept head array = go item kept
+  where
+    opening : (shape : Shape) → AllKept (openingRules (eqb (length before) 0) (headOf before) (length (opened before)) shape) →
+        Narrow shape
+    opening shape kept =
+        let rows : headOf before .rows ≡ seen .head .rows = ap (λ (s : Seen). s .head .rows) (sym is) in
+        let columns : headOf before .columns ≡ seen .head .columns = ap (λ (s : Seen). s .head .columns) (sym is) in (
+          omega (arith, rows, head, ltb-false (headOf before .rows) (shape .rows) (kept .1 .1 .0)),
+          omega (arith, columns, head, ltb-false (headOf before .columns) (shape .columns) (kept .1 .1 .1 .0)),
+        )
+
+    go : (item : Record) → AllKept (rulesOf before item) → Narrow (after seen item .head) × Narrow (after seen item .array .shape)
+    go (Record.Head shape) kept = ((ltb-false 30 (shape .rows) (kept .1 .0), ltb-false 30 (shape .columns) (kept .1 .1 .0)), array)
+    go (Record.Sparse shape) kept = (head, opening shape kept)
+    go (Record.Recursive shape) kept = (head, opening shape kept)
+    go (Record.Cell cell) kept = (head, array)
+    go (Record.Call call) kept = (head, array)
+    go Record.End kept = (head, array)

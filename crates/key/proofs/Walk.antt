@@ -1,42 +1,50 @@
 -- What taking and judging a record means for the answer, from where the walk stands.
-use Prim.Native.Nat.{ℕ, zero, suc, _+_, _≤_, _<_}
+use Prim.Native.Nat.{ℕ, zero, suc, _+_, _*_, _≤_, _<_}
 use mathlib.Core.Bool.{true, false}
 use mathlib.Core.List.{flatMap, List, [], _∷_, _++_, map, map-append, append-nil}
-use mathlib.Core.Path.{_≡_, sym, ap, ap₂, _∙_}
+use mathlib.Core.Path.{_≡_, sym, ap, ap₂, subst, _∙_}
 use native.Mathlib.Omega.{arith}
-use lib.ListN.{length, getD, take, length-append}
+use lib.ListN.{length, take, length-append}
 use lib.Seq.{append-snoc}
 use Rattle.refusal.specs.Outcome.{given, refusalOf}
 use Rattle.refusal.specs.declared.Refusal.{Refusal}
+use Rattle.records.specs.Kinds.{encoded}
 use Rattle.records.specs.Take.{takenOutcome, takenAt}
 use Rattle.records.specs.declared.Record.{Record}
-use Rattle.records.specs.declared.Shape.{Shape}
 use Rattle.records.specs.declared.Taken.{Taken}
-use Rattle.arrays.specs.WellFormed.{Each}
-use Rattle.key.specs.Before.{openingIn, opened, openingAt}
+use Rattle.records.proofs.Present.{taken-present}
+use Rattle.key.specs.Before.{openingIn, opened}
 use Rattle.key.specs.Check.{rulesOf, judged, checkedKey}
 use Rattle.key.specs.Index.{startsIn, startsOf}
-use Rattle.key.specs.Inner.{rowsIn, columnsIn, stored, isEnd, verdictOn, seenIn, after, countsSeen}
+use Rattle.rules.specs.Inner.{AllKept, Narrow}
+use Rattle.key.specs.Inner.{Stands, ShapesStand, isEnd, verdictOn, seenIn, after, countsSeen, Here}
 use Rattle.key.specs.Reading.{Located, Reading, located, behind, readFrom, readingOf, locatedIn, items}
-use Rattle.key.specs.declared.Opening.{Opening}
-use Rattle.key.specs.declared.rules.Verdict.{Verdict}
+use Rattle.rules.specs.declared.Opening.{Opening}
+use Rattle.rules.specs.declared.Verdict.{Verdict}
 use Rattle.key.specs.declared.seen.Seen.{Seen}
 use Rattle.key.proofs.Befores.{opened-one, one-opening}
 use Rattle.key.proofs.Joined.{flatMap-append}
-use Rattle.key.proofs.Kept.{Kept}
 use Rattle.key.proofs.Laid.{Onward, behind-onward}
 use Rattle.key.proofs.Readings.{read-record, read-stopped}
 use Rattle.key.proofs.Seeing.{verdict-judges, verdict-kept, counts-end, is-end, is-onward}
-use Rattle.key.proofs.SeenNext.{seen-next, arrays-next}
-use Rattle.key.proofs.Standing.{Here}
-use Rattle.key.proofs.Tables.{Holds, holds-next, stored-length, starts-next}
+use Rattle.key.proofs.SeenNext.{seen-next, arrays-next, narrow-next}
+use Rattle.key.proofs.Openings.{opening-stands}
+use Rattle.key.proofs.Tables.{stored, places-next, stored-length, starts-next}
 use Rattle.key.proofs.Verdicts.{settled}
 
 -- a list of located records with one more
 items-one : (past : List Located) (x : Located) → items (past ++ (x ∷ [])) ≡ items past ++ (x .item ∷ [])
 items-one past x = map-append (λ (y : Located). y .item) past (x ∷ [])
 
-module _ {key rows columns offsets : List ℕ} {seen : Seen} {at : ℕ} (H : Here key rows columns offsets seen at) where
+opening-wide : (item : Record) → 3 * length (openingIn item) ≤ length (encoded item)
+opening-wide (Record.Head shape) = omega arith
+opening-wide (Record.Sparse shape) = omega arith
+opening-wide (Record.Recursive shape) = omega arith
+opening-wide (Record.Cell cell) = omega arith
+opening-wide (Record.Call call) = omega arith
+opening-wide Record.End = omega arith
+
+module _ {key starts : List ℕ} {seen : Seen} {at : ℕ} (H : Here key starts seen at) where
   -- there is a step left
   record Ready : Type 0 where
     pub later : ℕ
@@ -65,16 +73,16 @@ module _ {key rows columns offsets : List ℕ} {seen : Seen} {at : ℕ} (H : Her
     rest = behind item (readFrom (ready .later) key next)
 
     abbrev verdict : Verdict
-    verdict = verdictOn seen rows columns (length key) at next item
+    verdict = verdictOn seen key starts at next item
 
     -- the answer goes by the verdict on the record
     turns : checkedKey key ≡ settled verdict (judged (length key) (items (H .past) ++ (item ∷ [])) rest)
     unfolding judged this rest
     turns =
         ready .same ∙ ap (judged (length key) (items (H .past))) (read-record (ready .later) key at item next e)
-        ∙ sym (verdict-judges (items (H .past)) rows columns (H .rows-hold) (H .columns-hold) (length key) at next item
+        ∙ sym (verdict-judges (items (H .past)) key starts (H .shapes) at next item
         (judged (length key) (items (H .past) ++ (item ∷ [])) (behind item (readFrom (ready .later) key next))))
-        ∙ ap (λ (s : Seen). settled (verdictOn s rows columns (length key) at next item)
+        ∙ ap (λ (s : Seen). settled (verdictOn s key starts at next item)
         (judged (length key) (items (H .past) ++ (item ∷ [])) (behind item (readFrom (ready .later) key next))))
         (sym (H .seen-is))
 
@@ -95,9 +103,9 @@ module _ {key rows columns offsets : List ℕ} {seen : Seen} {at : ℕ} (H : Her
           (is-end item end)
           ∙ ap given (counts-end (items (H .past)) ∙ ap countsSeen (sym (H .seen-is)))
 
-      pub noted : isEnd item ≡ true → startsOf key ≡ take (seen .arrays) offsets
+      pub all-noted : isEnd item ≡ true → startsOf key ≡ take (seen .arrays) starts
       unfolding locatedIn flatMap
-      noted end =
+      all-noted end =
           ap startsIn (ready .read)
           ∙ flatMap-append (λ (x : Located). map (λ (o : Opening). x .at) (openingIn (x .item))) (H .past) (locatedIn (readFrom (suc (ready .later)) key at))
           ∙ ap (λ (r : Reading). startsIn (H .past) ++ startsIn (locatedIn r)) (read-record (ready .later) key at item next e)
@@ -105,18 +113,18 @@ module _ {key rows columns offsets : List ℕ} {seen : Seen} {at : ℕ} (H : Her
           startsIn (locatedIn (located (record { item = r; at = at; next = next }) (behind r (readFrom (ready .later) key next)))))
           (is-end item end)
           ∙ append-nil (startsIn (H .past)) ∙ sym (H .offsets-hold)
-          ∙ ap (λ (s : Seen). take (s .arrays) offsets) (sym (H .seen-is))
+          ∙ ap (λ (s : Seen). take (s .arrays) starts) (sym (H .seen-is))
 
     -- the record keeps its rules and is no end, and the walk goes on behind it
     module _ (v : verdict ≡ Verdict.Kept) (no-end : isEnd item ≡ false) (forward : at < next) (inside : next ≤ length key) where
       before : List Record
       before = items (H .past)
 
-      kept : Each Kept (rulesOf before item)
+      kept : AllKept (rulesOf before item)
       unfolding before
       kept =
-          verdict-kept (items (H .past)) rows columns (H .rows-hold) (H .columns-hold) (length key) at next item
-          (ap (λ (s : Seen). verdictOn s rows columns (length key) at next item) (sym (H .seen-is)) ∙ v)
+          verdict-kept (items (H .past)) key starts (H .shapes) at next item
+          (ap (λ (s : Seen). verdictOn s key starts at next item) (sym (H .seen-is)) ∙ v)
 
       on : Onward item
       on = is-onward item no-end
@@ -141,16 +149,22 @@ module _ {key rows columns offsets : List ℕ} {seen : Seen} {at : ℕ} (H : Her
       unfolding before
       arrays-fit = arrays-next before item kept (H .arrays-most)
 
-      held : (number : Shape → ℕ) (table : List ℕ) → length table ≡ 1024 → Holds number table (opened before) →
-          Holds number (stored number table (seen .arrays) (openingIn item)) (opened (items (H .past ++ (this ∷ []))))
-      held number table long holds i =
-          ap (λ (n : ℕ). getD (stored number table n (openingIn item)) i 0) arrays-are
-          ∙ holds-next number table (opened before) (openingIn item) (one-opening item) (omega (arith, arrays-fit)) holds i
-          ∙ ap (λ (os : List Opening). number (openingAt os i .shape)) (sym openings)
+      -- an opening has three bytes
+      spaced-next : 3 * length (opened before ++ openingIn item) ≤ next
+      unfolding before
+      spaced-next =
+          omega
+          (arith, length-append (opened before) (openingIn item), H .spaced, taken-present key at item next e .1, opening-wide item)
 
-      pub goes-on :
-          Here key (stored rowsIn rows (seen .arrays) (openingIn item)) (stored columnsIn columns (seen .arrays) (openingIn item))
-          (stored (λ shape. at) offsets (seen .arrays) (openingIn item)) (after seen item) next
+      -- so that the table has a place for it
+      place-left : length (opened before ++ openingIn item) ≤ length starts
+      place-left = omega (arith, arrays-fit, spaced-next, inside, H .room)
+
+      narrow : Narrow (after seen item .head) × Narrow (after seen item .array .shape)
+      unfolding before
+      narrow = narrow-next before seen (H .seen-is) item kept (H .narrow-head) (H .narrow-array)
+
+      pub goes-on : Here key (stored starts (seen .arrays) at (openingIn item)) (after seen item) next
       unfolding before this locatedIn flatMap
       goes-on =
           record {
@@ -160,16 +174,20 @@ module _ {key rows columns offsets : List ℕ} {seen : Seen} {at : ℕ} (H : Her
             enough = omega (arith, ready .enough);
             few = omega (arith, length-append (H .past) (this ∷ []), H .few);
             arrays-most = omega (arith, ap length openings, arrays-fit);
+            spaced = omega (arith, ap length openings, spaced-next);
             seen-is =
                 ap (λ (s : Seen). after s item) (H .seen-is) ∙ seen-next before item on kept ∙ ap seenIn (sym more);
-            rows-length = stored-length rowsIn rows (seen .arrays) (openingIn item) ∙ H .rows-length;
-            columns-length = stored-length columnsIn columns (seen .arrays) (openingIn item) ∙ H .columns-length;
-            offsets-length = stored-length (λ shape. at) offsets (seen .arrays) (openingIn item) ∙ H .offsets-length;
-            rows-hold = held rowsIn rows (H .rows-length) (H .rows-hold);
-            columns-hold = held columnsIn columns (H .columns-length) (H .columns-hold);
+            narrow-head = narrow .0;
+            narrow-array = narrow .1;
+            room = omega (arith, stored-length starts (seen .arrays) at (openingIn item), H .room);
+            shapes =
+                subst (λ (os : List Opening). ShapesStand key (stored starts (seen .arrays) at (openingIn item)) os) (sym openings)
+                (subst (λ (n : ℕ). ShapesStand key (stored starts n at (openingIn item)) (opened before ++ openingIn item)) (sym arrays-are)
+                (places-next (Stands key) starts at (opened before) (openingIn item) (one-opening item) place-left
+                (H .shapes) (opening-stands key at next item e)));
             offsets-hold =
-                ap₂ (λ (os : List Opening) (n : ℕ). take (length os) (stored (λ shape. at) offsets n (openingIn item))) openings arrays-are
-                ∙ starts-next (opened before) (openingIn item) offsets at (one-opening item) (omega (arith, arrays-fit, H .offsets-length))
+                ap₂ (λ (os : List Opening) (n : ℕ). take (length os) (stored starts n at (openingIn item))) openings arrays-are
+                ∙ starts-next (opened before) (openingIn item) starts at (one-opening item) place-left
                 ∙ ap (λ (s : List ℕ). s ++ map (λ opening. at) (openingIn item)) (H .offsets-hold)
                 ∙ ap (λ (s : List ℕ). startsIn (H .past) ++ s) (sym (append-nil (map (λ opening. at) (openingIn item))))
                 ∙ sym (flatMap-append (λ (x : Located). map (λ (o : Opening). x .at) (openingIn (x .item))) (H .past) (this ∷ []));

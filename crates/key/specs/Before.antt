@@ -7,7 +7,7 @@ use lib.ListN.{length, getD}
 use Rattle.records.specs.Kinds.{kindOf}
 use Rattle.records.specs.declared.Record.{Record}
 use Rattle.records.specs.declared.Shape.{Shape}
-use Rattle.key.specs.declared.Opening.{Opening}
+use Rattle.rules.specs.declared.Opening.{Opening}
 
 -- the opening of an array that a record is, if it is one: its kind, 02 sparse or 03 recursive, and the array's shape
 abbrev pub openingIn : Record → List Opening

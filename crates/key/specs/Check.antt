@@ -10,7 +10,7 @@ use Rattle.refusal.specs.declared.Reason.{Reason}
 use Rattle.records.specs.declared.Record.{Record}
 use Rattle.key.specs.Before.{opened, openingAt, openNow, headOf, countOf}
 use Rattle.key.specs.Reading.{Located, Reading, ended, stopped, located, readingOf}
-use Rattle.key.specs.Rules.{Rule, headRules, openingRules, cellRules, callRules, endRules, afterRules}
+use Rattle.rules.specs.Rules.{Rule, headRules, openingRules, cellRules, callRules, endRules, afterRules}
 use Rattle.key.specs.declared.Checked.{Checked}
 use Rattle.key.specs.declared.Counts.{Counts}
 

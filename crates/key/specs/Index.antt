@@ -2,8 +2,8 @@
 use Prim.Native.Nat.{ℕ, _+_, _-_, _<_}
 use mathlib.Core.List.{List, [], _∷_, _++_, map, flatMap}
 use mathlib.Core.Path.{_≡_}
-use lib.ListN.{length, getD, drop}
-use Rattle.refusal.specs.Outcome.{Outcome, given, refused}
+use lib.ListN.{length, getD, take}
+use Rattle.refusal.specs.Outcome.{given}
 use Rattle.records.specs.Kinds.{encoded}
 use Rattle.records.specs.Take.{takenOutcome, takenAt}
 use Rattle.records.specs.declared.Record.{Record}
@@ -23,18 +23,9 @@ startsIn records = flatMap (λ x. map (λ opening. x .at) (openingIn (x .item)))
 abbrev pub startsOf : List ℕ → List ℕ
 startsOf key = startsIn (locatedIn (readingOf key))
 
--- a table whose first places hold these numbers, the others being as they were
-abbrev pub written : List ℕ → List ℕ → List ℕ
-written numbers table = numbers ++ drop (length numbers) table
-
--- the table after an answer: with the offsets where the key is accepted, as it was where it is refused
-unfoldable pub indexed : Outcome Counts → List ℕ → List ℕ → List ℕ
-indexed (given counts) starts table = written starts table
-indexed (refused number place) starts table = table
-
--- the table that indexing a key leaves
-abbrev pub indexedKey : List ℕ → List ℕ → List ℕ
-indexedKey key table = indexed (checkedKey key) (startsOf key) table
+-- what the index leaves in its table: where a key is accepted, the first places hold the offset of each array
+abbrev pub Indexing : List ℕ → List ℕ → Type 0
+Indexing key table = (counts : Counts) → checkedKey key ≡ given counts → take (length (startsOf key)) table ≡ startsOf key
 
 -- ---- what the offsets mean
 

@@ -1,48 +1,55 @@
 -- What the contracts of inner functions cite: it mirrors the code. No public promise rests on it.
-use Prim.Native.Nat.{ℕ, _+_, _-_}
+use Prim.Native.Nat.{ℕ, min, _+_, _-_, _*_, _/_, _≤_, _<_}
 use mathlib.Core.Bool.{Bool, true, false}
-use mathlib.Core.List.{List, [], _∷_}
+use mathlib.Core.List.{List, _++_, map}
+use mathlib.Core.Path.{_≡_}
 use lib.Dec.{eqb}
-use lib.ListN.{length, getD, set}
+use lib.ListN.{length, getD, take}
 use Rattle.refusal.specs.Outcome.{Outcome, refuse, refusalOf}
 use Rattle.refusal.specs.declared.Reason.{Reason}
+use Rattle.records.specs.Kinds.{encoded}
+use Rattle.records.specs.Take.{takenOutcome, takenAt}
+use Rattle.records.specs.declared.Call.{Call}
 use Rattle.records.specs.declared.Record.{Record}
 use Rattle.records.specs.declared.Shape.{Shape}
 use Rattle.records.specs.declared.Taken.{Taken}
-use Rattle.key.specs.Before.{opened, openNow, headOf, countOf}
-use Rattle.key.specs.Check.{rulesBehind}
-use Rattle.key.specs.Rules.{Rule, headRules, openingRules, cellRules, callRules, endRules}
+use Rattle.arrays.specs.WellFormed.{Each}
+use Rattle.rules.specs.Inner.{heldTo, AllKept, shapeRead, Narrow, callRulesIn}
+use Rattle.key.specs.Before.{opened, openingAt, openNow, headOf, countOf}
+use Rattle.key.specs.Check.{rulesBehind, judged, checkedKey}
+use Rattle.key.specs.Index.{Runs, startsIn}
+use Rattle.key.specs.Reading.{Located, readFrom, readingOf, locatedIn, items}
+use Rattle.rules.specs.Rules.{Rule, headRules, openingRules, cellRules, endRules}
 use Rattle.key.specs.declared.Counts.{Counts}
-use Rattle.key.specs.declared.Opening.{Opening}
-use Rattle.key.specs.declared.rules.Verdict.{Verdict}
+use Rattle.rules.specs.declared.Opening.{Opening}
+use Rattle.rules.specs.declared.Verdict.{Verdict}
 use Rattle.key.specs.declared.seen.Seen.{Seen}
 
--- a verdict stands where it is a refusal already, or where the rule is kept
-abbrev pub unlessBroken : Verdict → Reason → Bool → ℕ → Verdict
-unlessBroken (Verdict.Refused f) reason broken place = Verdict.Refused f
-unlessBroken Verdict.Kept reason true place = Verdict.Refused (record { reason = reason; place = place })
-unlessBroken Verdict.Kept reason false place = Verdict.Kept
+-- ---- the shapes of the arrays so far
 
--- a verdict after some rules, all at one place
-abbrev pub heldTo : Verdict → ℕ → List Rule → Verdict
-heldTo verdict place [] = verdict
-heldTo verdict place (rule ∷ rules) = heldTo (unlessBroken verdict (rule .reason) (rule .broken) place) place rules
+-- behind an opening's kind, at an offset, stands a shape
+abbrev pub Stands : List ℕ → ℕ → Shape → Type 0
+Stands key at shape = (at + 2 < length key) × (shapeRead key at ≡ shape)
 
--- the rules of a record, by what was seen before it and the shapes of the arrays so far
+-- at the offset of each place stands in the key the shape of the opening with its number
+abbrev pub ShapesStand : List ℕ → List ℕ → List Opening → Type 0
+ShapesStand key starts openings = (i : ℕ) → i < length openings → Stands key (getD starts i 0) (openingAt openings i .shape)
+
+-- the rules of a record, by what was seen before it and the offsets of the arrays so far
 abbrev pub rulesSeen : Seen → List ℕ → List ℕ → Record → List Rule
-rulesSeen seen rows columns (Record.Head shape) = headRules (seen .first) shape
-rulesSeen seen rows columns (Record.Sparse shape) = openingRules (seen .first) (seen .head) (seen .arrays) shape
-rulesSeen seen rows columns (Record.Recursive shape) = openingRules (seen .first) (seen .head) (seen .arrays) shape
-rulesSeen seen rows columns (Record.Cell cell) = cellRules (seen .array) cell
-rulesSeen seen rows columns (Record.Call call) =
-    callRules (seen .array) (seen .arrays - 1) (record { rows = getD rows (call .id) 0; columns = getD columns (call .id) 0 }) call
-rulesSeen seen rows columns Record.End = endRules (seen .head) (seen .arrays) (seen .array)
+rulesSeen seen key starts (Record.Head shape) = headRules (seen .first) shape
+rulesSeen seen key starts (Record.Sparse shape) = openingRules (seen .first) (seen .head) (seen .arrays) shape
+rulesSeen seen key starts (Record.Recursive shape) = openingRules (seen .first) (seen .head) (seen .arrays) shape
+rulesSeen seen key starts (Record.Cell cell) = cellRules (seen .array) cell
+rulesSeen seen key starts (Record.Call call) = callRulesIn key starts (seen .array) (seen .arrays) call
+rulesSeen seen key starts Record.End = endRules (seen .head) (seen .arrays) (seen .array)
 
--- the verdict on a record whose bytes are those from `at` to `next`, in a key of `len` bytes
-abbrev pub verdictOn : Seen → List ℕ → List ℕ → ℕ → ℕ → ℕ → Record → Verdict
-verdictOn seen rows columns len at next item =
-    heldTo (heldTo Verdict.Kept at (rulesSeen seen rows columns item)) next (rulesBehind item next len)
+-- the verdict on a record whose bytes are those from `at` to `next`
+abbrev pub verdictOn : Seen → List ℕ → List ℕ → ℕ → ℕ → Record → Verdict
+verdictOn seen key starts at next item =
+    heldTo (heldTo Verdict.Kept at (rulesSeen seen key starts item)) next (rulesBehind item next (length key))
 
+-- whether a record ends the key
 abbrev pub isEnd : Record → Bool
 isEnd (Record.Head shape) = false
 isEnd (Record.Sparse shape) = false
@@ -50,6 +57,24 @@ isEnd (Record.Recursive shape) = false
 isEnd (Record.Cell cell) = false
 isEnd (Record.Call call) = false
 isEnd Record.End = true
+
+-- whether a record opens an array or ends the key
+abbrev pub opensOrEnds : Record → Bool
+opensOrEnds (Record.Head shape) = false
+opensOrEnds (Record.Sparse shape) = true
+opensOrEnds (Record.Recursive shape) = true
+opensOrEnds (Record.Cell cell) = false
+opensOrEnds (Record.Call call) = false
+opensOrEnds Record.End = true
+
+-- a record is an entry of an array: a cell or a call
+abbrev pub IsEntry : Record → Type 0
+IsEntry (Record.Head shape) = ⊥
+IsEntry (Record.Sparse shape) = ⊥
+IsEntry (Record.Recursive shape) = ⊥
+IsEntry (Record.Cell cell) = Unit {0}
+IsEntry (Record.Call call) = Unit {0}
+IsEntry Record.End = ⊥
 
 -- what is seen of the records before
 abbrev pub seenIn : List Record → Seen
@@ -107,18 +132,56 @@ countsSeen seen =
       columns = seen .head .columns;
     }
 
-abbrev pub rowsIn : Shape → ℕ
-rowsIn shape = shape .rows
-
-abbrev pub columnsIn : Shape → ℕ
-columnsIn shape = shape .columns
-
--- a table with a number of an opening's shape in place i, where there is an opening
-abbrev pub stored : (Shape → ℕ) → List ℕ → ℕ → List Opening → List ℕ
-stored number table i [] = table
-stored number table i (o ∷ openings) = set table i (number (o .shape))
-
 -- the answer where no record can be taken; it is never asked for a record
 abbrev pub notTaken : Taken → Outcome Counts
 notTaken (Taken.Refused f) = refusalOf f
 notTaken (Taken.Record r next) = refuse Reason.RecordIncomplete next
+
+-- ---- the walk
+
+-- What holds where the walk over a key's records stands, before the record at `at`: the records before it are `past`, they keep
+-- their rules, their openings are noted, and the rest is still to be read, in so many steps.
+pub record Here (key starts : List ℕ) (seen : Seen) (at : ℕ) : Type 0 where
+  pub past : List Located
+  pub steps : ℕ
+  pub within : at ≤ length key
+  pub enough : length key < at + steps
+  pub few : length past ≤ at
+  pub arrays-most : length (opened (items past)) ≤ 1024
+  pub spaced : 3 * length (opened (items past)) ≤ at
+  pub seen-is : seen ≡ seenIn (items past)
+  pub narrow-head : Narrow (seen .head)
+  pub narrow-array : Narrow (seen .array .shape)
+  pub room : min 1024 (length key / 3) ≤ length starts
+  pub shapes : ShapesStand key starts (opened (items past))
+  pub offsets-hold : take (length (opened (items past))) starts ≡ startsIn past
+  pub read : locatedIn (readingOf key) ≡ past ++ locatedIn (readFrom steps key at)
+  pub same : checkedKey key ≡ judged (length key) (items past) (readFrom steps key at)
+
+-- of the records that may stand at an offset of a key only those of some kinds can keep their rules
+abbrev pub Only : (Record → Bool) → List ℕ → List ℕ → Seen → ℕ → Type 0
+Only kinds key starts seen at =
+    (item : Record) (next : ℕ) → takenAt key at ≡ takenOutcome (Taken.Record item next) →
+    AllKept (rulesSeen seen key starts item) → kinds item ≡ true
+
+-- at an offset of a key stands an entry of a kind that keeps its rules
+pub record Passes {A : Type 0} (key : List ℕ) (item : A → Record) (rules : A → List Rule) (at : ℕ) : Type 0 where
+  pub entry : A
+  pub taken : takenAt key at ≡ takenOutcome (Taken.Record (item entry) (at + length (encoded (item entry))))
+  pub kept : AllKept (rules entry)
+
+-- at an offset of a key stands no entry of a kind that keeps its rules
+abbrev pub Fails : {A : Type 0} → List ℕ → (A → Record) → (A → List Rule) → ℕ → Type 0
+Fails {A = A} key item rules at =
+    (entry : A) (next : ℕ) → takenAt key at ≡ takenOutcome (Taken.Record (item entry) next) → AllKept (rules entry) → ⊥
+
+-- what an answer says of the entry at an offset
+abbrev pub Tried : {A : Type 0} → Bool → List ℕ → (A → Record) → (A → List Rule) → ℕ → Type 0
+Tried true key item rules at = Passes key item rules at
+Tried false key item rules at = Fails key item rules at
+
+-- Entries of one kind that stand one behind the other in a key, from an offset to another, and keep their rules.
+pub record Run {A : Type 0} (key : List ℕ) (item : A → Record) (rules : A → List Rule) (from to : ℕ) : Type 0 where
+  pub entries : List A
+  pub runs : Runs key from (map item entries) to
+  pub kept : Each (λ x. AllKept (rules x)) entries

@@ -1,6 +1,5 @@
 pub mod Reading
 pub mod Before
-pub mod Rules
 pub mod Check
 pub mod KeyArrays
 pub mod Encoding

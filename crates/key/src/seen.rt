@@ -1,12 +1,12 @@
 // What the walk over a key's records has seen before a record.
 use crate::Counts;
-use crate::Opening;
-use records::Record;
 use records::Shape;
+use rules::Opening;
 ghost use mathlib.Core.Path.{_≡_};
 ghost use mathlib.Core.List.{[]};
-ghost use Prim.Native.Nat.{_<_};
-ghost use Rattle.key.specs.Inner.{seenIn, after, countsSeen};
+ghost use Prim.Native.Nat.{_+_, _≤_, _<_};
+ghost use Rattle.records.specs.declared.Record.{Record};
+ghost use Rattle.key.specs.Inner.{seenIn, opening, passed, after, countsSeen};
 
 // What was seen so far.
 pub(crate) struct Seen {
@@ -43,35 +43,41 @@ pub(crate) fn nothing() -> Seen
     }
 }
 
-// What is seen behind a record. Inner: the counts are below 65,536, the most bytes that a key has.
-pub(crate) fn advance(seen: Seen, item: Record) -> Seen
-    requires { ⌜ (seen .arrays < 65536) × (seen .cells < 65536) × (seen .calls < 65536) ⌝ }
-    ensures { λ r. ⌜ r ≡ after seen item ⌝ }
+// What is seen behind a head that is the first record.
+pub(crate) fn headed(shape: Shape) -> Seen
+    ensures { λ r. ⌜ r ≡ after (seenIn []) (Record.Head shape) ⌝ }
+{
+    let mut s = nothing();
+    s.first = false;
+    s.head = shape;
+    s
+}
+
+// What is seen behind the opening of an array of a kind. Inner: there are fewer than 1,024 arrays before it.
+pub(crate) fn opened(seen: Seen, kind: u8, shape: Shape) -> Seen
+    requires { ⌜ seen .arrays < 1024 ⌝ }
+    ensures { λ r. ⌜ r ≡ opening seen kind shape ⌝ }
+{
+    let mut s = seen;
+    let array = Opening {
+        kind: kind,
+        shape: shape,
+    };
+    s.first = false;
+    s.array = array;
+    s.arrays += 1;
+    s
+}
+
+// What is seen behind so many cells and calls more. Inner: the sums are at most 65,536, the most bytes that a key has.
+pub(crate) fn entered(seen: Seen, cells: usize, calls: usize) -> Seen
+    requires { ⌜ (seen .cells + cells ≤ 65536) × (seen .calls + calls ≤ 65536) ⌝ }
+    ensures { λ r. ⌜ r ≡ passed seen (seen .head) (seen .cells + cells) (seen .calls + calls) ⌝ }
 {
     let mut s = seen;
     s.first = false;
-    match item {
-        Record::Head(shape) => s.head = shape,
-        Record::Sparse(shape) => {
-            let array = Opening {
-                kind: 2,
-                shape: shape,
-            };
-            s.array = array;
-            s.arrays += 1;
-        }
-        Record::Recursive(shape) => {
-            let array = Opening {
-                kind: 3,
-                shape: shape,
-            };
-            s.array = array;
-            s.arrays += 1;
-        }
-        Record::Cell(_) => s.cells += 1,
-        Record::Call(_) => s.calls += 1,
-        Record::End => (),
-    }
+    s.cells += cells;
+    s.calls += calls;
     s
 }
 

@@ -2,7 +2,6 @@
 use Prim.Native.Nat.{ℕ}
 use mathlib.Core.List.{List}
 use mathlib.Core.Path.{_≡_, refl, sym, ap, ap₂, _∙_}
-use Rattle.refusal.specs.declared.Refusal.{Refusal}
 use Rattle.refusal.proofs.Outcomes.{refusal-injective, given-not-refused}
 use Rattle.records.specs.Kinds.{kindOf, fieldsOf, recordOf}
 use Rattle.records.specs.Put.{writtenOutcome}
@@ -47,10 +46,6 @@ nextIn (Taken.Refused f) = 0
 pub record-same : (r s : Record) (m n : ℕ) → Taken.Record r m ≡ Taken.Record s n → (r ≡ s) × (m ≡ n)
 unfolding itemIn nextIn
 record-same r s m n e = (ap itemIn e, ap nextIn e)
-
-pub record-not-refused : (taken : Taken) (item : Record) (next : ℕ) (f : Refusal) →
-    taken ≡ Taken.Record item next → taken ≡ Taken.Refused f → ⊥
-record-not-refused taken item next f e g = given-not-refused (ap takenOutcome (sym e ∙ g))
 
 pub written-injective : (r s : Written) → writtenOutcome r ≡ writtenOutcome s → r ≡ s
 written-injective (Written.Next m) (Written.Next n) e = ap Written.Next (cc)

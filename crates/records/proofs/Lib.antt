@@ -6,4 +6,5 @@ pub mod Putting
 pub mod RoundTrip
 pub mod Answers
 pub mod Found
+pub mod Present
 pub mod Examples

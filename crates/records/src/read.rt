@@ -28,8 +28,8 @@ pub(crate) fn record(bytes: &[u8], at: usize, kind: u8) -> Record
     }
 }
 
-// The shape in two bytes.
-fn shape(bytes: &[u8], at: usize) -> Shape
+// The shape in two bytes. Inner: they are there.
+pub fn shape(bytes: &[u8], at: usize) -> Shape
     requires { ⌜ at + 2 ≤ length (now bytes) ⌝ }
     ensures { λ r. ⌜ shapeFields r ≡ fieldsIn (1 ∷ 1 ∷ []) (drop at (now (bytes .entry))) ⌝ }
 {
@@ -39,8 +39,8 @@ fn shape(bytes: &[u8], at: usize) -> Shape
     }
 }
 
-// The cell in twenty bytes.
-fn cell(bytes: &[u8], at: usize) -> Cell
+// The cell in twenty bytes. Inner: they are there.
+pub fn cell(bytes: &[u8], at: usize) -> Cell
     requires { ⌜ at + 20 ≤ length (now bytes) ⌝ }
     ensures { λ r. ⌜ cellFields r ≡ fieldsIn (4 ∷ 4 ∷ 4 ∷ 4 ∷ 4 ∷ []) (drop at (now (bytes .entry))) ⌝ }
 {
@@ -53,8 +53,8 @@ fn cell(bytes: &[u8], at: usize) -> Cell
     }
 }
 
-// The call in ten bytes.
-fn call(bytes: &[u8], at: usize) -> Call
+// The call in ten bytes. Inner: they are there.
+pub fn call(bytes: &[u8], at: usize) -> Call
     requires { ⌜ at + 10 ≤ length (now bytes) ⌝ }
     ensures { λ r. ⌜ callFields r ≡ fieldsIn (2 ∷ 4 ∷ 4 ∷ []) (drop at (now (bytes .entry))) ⌝ }
 {

@@ -1,0 +1,221 @@
+-- `compare::by_tables` meets its contract: the judgements in their order, then the two passes.
+use Prim.Native.Nat.{ℕ, _*_, _≤_}
+use mathlib.Core.List.{List}
+use mathlib.Core.Path.{_≡_, sym, ap, _∙_}
+use denote.Ref.{now}
+use borrow.Author.Needs.{needs}
+use lib.ListN.{length}
+use Rattle.refusal.specs.Outcome.{given}
+use Rattle.key.specs.Check.{checkedOutcome, checkedKey}
+use Rattle.evaluate.specs.Inner.{AtPoint}
+use Rattle.evaluate.proofs.Concluded.{arrays-counted, at-most-1024, table-indexed}
+use Rattle.evaluate.proofs.Passed.{last-filled, last-extended}
+use Rattle.compare.specs.Compare.{Answer, Comparison, pairJudged, compared}
+use Rattle.compare.proofs.Comparisons.{first-refused, second-refused, neither-refused}
+use Rattle.compare.proofs.Passes.{passed, first-pass, second-pass, both-passed}
+use Rattle.compare.proofs.by_tables.Statement.{statement}
+use Rattle.compare.proofs.by_tables.Tie as tie
+
+-- what is answered and left on the sheet
+promised : (first second rows columns sheet : List ℕ) (answer : Answer) (after : List ℕ) →
+    compared first second rows columns sheet ≡ record { answer = answer; sheet = after } →
+    (answer ≡ compared first second rows columns sheet .answer) × (after ≡ compared first second rows columns sheet .sheet)
+promised first second rows columns sheet answer after e =
+    (sym (ap (λ (x : Comparison). x .answer) e), sym (ap (λ (x : Comparison). x .sheet) e))
+
+-- the first key's counts, and the start, from behind the second key's
+abbrev firstly : tie.After-counts2 → tie.After-counts
+firstly c = c .before .before .before .before .before .before .before
+
+abbrev start : tie.After-counts → tie.Start
+start c = c .before .before .before .before .before .before .before .before .before .before .before .before .before
+
+first-accepted : (c : tie.After-counts) → checkedKey (now (start c .args .first)) ≡ given (c .counts .given .0 .0)
+first-accepted c = sym (c .before .before .before .before .index .ensures .0) ∙ ap checkedOutcome (c .counts .given .1)
+
+second-accepted : (c : tie.After-counts2) →
+    checkedKey (now (start (firstly c) .args .second)) ≡ given (c .counts2 .given .0 .0)
+second-accepted c = sym (c .before .before .before .before .index2 .ensures .0) ∙ ap checkedOutcome (c .counts2 .given .1)
+
+-- where nothing is refused
+abbrev counted : tie.After-enum-told → tie.After-counts2
+counted c = c .before .before .before .before
+
+admitted-at : (c : tie.After-enum-told) →
+    let args = start (firstly (counted c)) .args in
+    pairJudged (now (args .rows)) (now (args .columns)) (length (now (args .sheet))) (firstly (counted c) .counts .given .0 .0)
+    (counted c .counts2 .given .0 .0)
+    ≡ given (c .enum-told .given .0 .0)
+admitted-at c = sym (c .before .before .pair .ensures) ∙ ap checkedOutcome (c .enum-told .given .1)
+
+-- what the passes ask of the point and of the sheet
+first-ready : (c : tie.After-enum-told) →
+    let args = start (firstly (counted c)) .args in
+    AtPoint (now (args .first)) (now (args .rows)) (now (args .columns)) ×
+    (3 * firstly (counted c) .counts .given .0 .0 .arrays ≤ length (now (args .sheet)))
+first-ready c =
+    first-pass _ _ _ _ (now (start (firstly (counted c)) .args .sheet)) _ _ _ (first-accepted (firstly (counted c)))
+    (second-accepted (counted c)) (admitted-at c)
+
+second-ready : (c : tie.After-enum-told) →
+    let args = start (firstly (counted c)) .args in (between : List ℕ) →
+    between ≡ passed (now (args .first)) (now (args .rows)) (now (args .columns)) (firstly (counted c) .counts .given .0 .0)
+    (now (args .sheet)) →
+    AtPoint (now (args .second)) (now (args .rows)) (now (args .columns)) ×
+    (3 * counted c .counts2 .given .0 .0 .arrays ≤ length between)
+second-ready c =
+    second-pass _ _ _ _ _ _ _ _ (first-accepted (firstly (counted c))) (second-accepted (counted c)) (admitted-at c)
+
+index-requires : tie.Need-index-requires
+index-requires c κs = search needs
+
+enum-known-refusal : tie.Need-enum-known-refusal
+enum-known-refusal c = search needs
+
+same-length : tie.Need-same-length
+same-length c = search needs
+
+returns : tie.Need-returns
+returns c =
+    promised _ _ _ _ _ _ _
+    (first-refused _ _ _ _ _ _ _
+    (sym (c .before .before .before .before .before .index .ensures .0) ∙ ap checkedOutcome (c .before .refusal .given .1)))
+
+enum-known-counts : tie.Need-enum-known-counts
+enum-known-counts c = search needs
+
+index-requires-2 : tie.Need-index-requires-2
+index-requires-2 c κs = search needs
+
+enum-known-refusal-2 : tie.Need-enum-known-refusal-2
+enum-known-refusal-2 c = search needs
+
+same-length-2 : tie.Need-same-length-2
+same-length-2 c = search needs
+
+same-length-3 : tie.Need-same-length-3
+same-length-3 c = search needs
+
+returns-2 : tie.Need-returns-2
+returns-2 c =
+    promised _ _ _ _ _ _ _
+    (second-refused _ _ _ _ _ _ (first-accepted (c .before .before .before .before .before .before .before .before)) _ _
+    (sym (c .before .before .before .before .before .index2 .ensures .0) ∙ ap checkedOutcome (c .before .refusal2 .given .1)))
+
+enum-known-counts-2 : tie.Need-enum-known-counts-2
+enum-known-counts-2 c = search needs
+
+pair-requires : tie.Need-pair-requires
+pair-requires c κs = (at-most-1024 _ _ (first-accepted (firstly (c .before))), at-most-1024 _ _ (second-accepted (c .before)))
+
+enum-known-refusal-3 : tie.Need-enum-known-refusal-3
+enum-known-refusal-3 c = search needs
+
+same-length-4 : tie.Need-same-length-4
+same-length-4 c = search needs
+
+same-length-5 : tie.Need-same-length-5
+same-length-5 c = search needs
+
+returns-3 : tie.Need-returns-3
+returns-3 c =
+    let keys = c .before .before .before .before .before in
+    promised _ _ _ _ _ _ _
+    (neither-refused _ _ _ _ _ _ (first-accepted (firstly keys)) _ (second-accepted keys) _ _
+    (sym (c .before .before .before .pair .ensures) ∙ ap checkedOutcome (c .before .refusal3 .given .1)))
+
+enum-told : tie.Need-enum-told
+enum-told c = search needs
+
+run-requires : tie.Need-run-requires
+run-requires c κs =
+    let told = c .before .before in
+    let accepted = first-accepted (firstly (counted told)) in (
+      table-indexed _ _ accepted _ (firstly (counted told) .before .before .before .before .index .ensures .1),
+      (arrays-counted _ _ accepted, first-ready told),
+    )
+
+last-requires : tie.Need-last-requires
+last-requires c κs =
+    let ran = c .before .before .before in
+    let told = ran .before .before .before in
+    let ready = first-ready told in
+    last-filled _ _ _ (ready .0) _ (arrays-counted _ _ (first-accepted (firstly (counted told)))) _ _ (ready .1)
+    (ran .run .ensures)
+
+run-requires-2 : tie.Need-run-requires-2
+run-requires-2 c κs =
+    let ran = c .before .before .before .before .before .before in
+    let told = ran .before .before .before in
+    let accepted = second-accepted (counted told) in (
+      table-indexed _ _ accepted _ (counted told .before .before .before .before .index2 .ensures .1),
+      (arrays-counted _ _ accepted, second-ready told _ (ran .run .ensures)),
+    )
+
+last-requires-2 : tie.Need-last-requires-2
+last-requires-2 c κs =
+    let ran-2 = c .before .before .before in
+    let ran = ran-2 .before .before .before .before .before .before .before in
+    let told = ran .before .before .before in
+    let ready = second-ready told _ (ran .run .ensures) in
+    last-filled _ _ _ (ready .0) _ (arrays-counted _ _ (second-accepted (counted told))) _ _ (ready .1) (ran-2 .run2 .ensures)
+
+likeness-requires : tie.Need-likeness-requires
+likeness-requires c κs = search needs
+
+same-length-6 : tie.Need-same-length-6
+same-length-6 c = search needs
+
+same-length-7 : tie.Need-same-length-7
+same-length-7 c = firstly (counted (c .before .before .before .before .before .before .before .before .before .before .before .before .before .before .before)) .before .before .before .first-starts .given
+
+same-length-8 : tie.Need-same-length-8
+same-length-8 c = counted (c .before .before .before .before .before .before .before .before .before .before .before .before .before .before .before) .before .before .before .second-starts .given
+
+returns-4 : tie.Need-returns-4
+returns-4 c =
+    let ran-2 = c .before .before .before .before .before in
+    let ran = ran-2 .before .before .before .before .before .before .before in
+    let told = ran .before .before .before in
+    let accepted = first-accepted (firstly (counted told)) in
+    let accepted-2 = second-accepted (counted told) in
+    let ready = first-ready told in
+    let ready-2 = second-ready told _ (ran .run .ensures) in
+    promised _ _ _ _ _ _ _
+    (both-passed _ _ _ _ _ _ _ _ accepted accepted-2 (admitted-at told) _ _ _ _ _
+    (last-extended _ _ _ (ready .0) _ (arrays-counted _ _ accepted) _ _ (ready .1) (ran .run .ensures) _
+    (ran-2 .before .before .before .last .ensures))
+    (last-extended _ _ _ (ready-2 .0) _ (arrays-counted _ _ accepted-2) _ _ (ready-2 .1) (ran-2 .run2 .ensures) _
+    (c .before .last2 .ensures))
+    (c .likeness .ensures) (ran .run .ensures) (ran-2 .run2 .ensures))
+
+pub by-tables-spec : {M : Type 1} → statement M
+by-tables-spec =
+    tie.close
+    (tie.spec
+    index-requires
+    enum-known-refusal
+    same-length
+    returns
+    enum-known-counts
+    index-requires-2
+    enum-known-refusal-2
+    same-length-2
+    same-length-3
+    returns-2
+    enum-known-counts-2
+    pair-requires
+    enum-known-refusal-3
+    same-length-4
+    same-length-5
+    returns-3
+    enum-told
+    run-requires
+    last-requires
+    run-requires-2
+    last-requires-2
+    likeness-requires
+    same-length-6
+    same-length-7
+    same-length-8
+    returns-4)

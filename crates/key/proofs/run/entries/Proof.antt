@@ -1,0 +1,82 @@
+-- `key::run::entries` meets its contract: what a run goes over, the walk would have gone over one by one.
+use mathlib.Core.Path.{refl}
+use native.Mathlib.Omega.{arith}
+use denote.Ref.{now}
+use borrow.Author.Needs.{needs}
+use Rattle.key.specs.Inner.{passed}
+use Rattle.key.proofs.RunPassed.{run-inside, cells-walked, calls-walked}
+use Rattle.key.proofs.RunStops.{late-head, not-sparse, not-recursive, only-opens}
+use Rattle.key.proofs.Standing.{counts-most, noted}
+use Rattle.key.proofs.run.entries.Statement.{statement}
+use Rattle.key.proofs.run.entries.Tie as tie
+
+cells-requires : tie.Need-cells-requires
+cells-requires c κs = search needs
+
+sub-entered : tie.Need-sub-entered
+sub-entered c =
+    run-inside (c .cells .ensures .0) (c .before .before .before .before .before .before .pre .1 .1 .within) .0
+
+entered-requires : tie.Need-entered-requires
+entered-requires c κs =
+    let pre = c .before .before .before .before .before .before .pre in
+    omega (arith, pre .0, counts-most (pre .1 .1), run-inside (c .cells .ensures .0) (pre .1 .1 .within))
+
+returns : tie.Need-returns
+returns c =
+    let run = c .before .cells in
+    let start = c .before .before .before .before .before .before .before in
+    let H = start .pre .1 .1 in
+    let key = now (start .args .key) in
+    rw (c .entered .ensures) (
+      cells-walked H (start .pre .1 .0) (run .ensures .0),
+      (
+        only-opens key (now (start .args .starts)) (passed (start .args .seen) _ _ _) (run .result)
+            (late-head key (run .result) _ refl) (run .ensures .1)
+            (not-recursive key (now (start .args .starts)) (start .args .seen .array) _ (run .result) (λ e. omega (arith, e, c .before .before .if1 .taken))),
+        run-inside (run .ensures .0) (H .within) .0,
+      ),
+    )
+
+calls-requires : tie.Need-calls-requires
+calls-requires c κs =
+    let pre = c .before .before .before .before .before .pre in
+    (pre .1 .1 .within, (pre .0, (noted (pre .1 .1), pre .1 .1 .narrow-array)))
+
+sub-entered-2 : tie.Need-sub-entered-2
+sub-entered-2 c =
+    run-inside (c .calls .ensures .0) (c .before .before .before .before .before .before .pre .1 .1 .within) .0
+
+entered-requires-2 : tie.Need-entered-requires-2
+entered-requires-2 c κs =
+    let pre = c .before .before .before .before .before .before .pre in
+    omega (arith, pre .0, counts-most (pre .1 .1), run-inside (c .calls .ensures .0) (pre .1 .1 .within))
+
+returns-2 : tie.Need-returns-2
+returns-2 c =
+    let run = c .before .calls in
+    let start = c .before .before .before .before .before .before .before in
+    let H = start .pre .1 .1 in
+    let key = now (start .args .key) in
+    rw (c .entered2 .ensures) (
+      calls-walked H (start .pre .1 .0) (run .ensures .0),
+      (
+        only-opens key (now (start .args .starts)) (passed (start .args .seen) _ _ _) (run .result)
+            (late-head key (run .result) _ refl)
+            (not-sparse key _ (run .result) (c .before .before .if1 .left)) (run .ensures .1),
+        run-inside (run .ensures .0) (H .within) .0,
+      ),
+    )
+
+pub entries-spec : {M : Type 1} → statement M
+entries-spec =
+    tie.close
+    (tie.spec
+    cells-requires
+    sub-entered
+    entered-requires
+    returns
+    calls-requires
+    sub-entered-2
+    entered-requires-2
+    returns-2)
