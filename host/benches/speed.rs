@@ -1,5 +1,5 @@
 //! The archive beside the independent Rust pass, on the same inputs in one run: evaluate, check and
-//! compare on full-size keys and on a small one. The rounds of all sides alternate, and the table
+//! compare on full-size keys, on a small one, on a tower and on keys of narrow and of many arrays. The rounds of all sides alternate, and the table
 //! gives medians. `Rust` multiplies factor by factor; `tables` takes five factors at a time from
 //! tables. (The archive takes three at a time where the key is long.)
 //!

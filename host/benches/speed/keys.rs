@@ -30,18 +30,19 @@ impl Sample {
     }
 }
 
-/// Keys of 65,536 bytes and the request's small key.
+/// Keys of at most 65,536 bytes, the request's small key among them.
 pub fn samples() -> Vec<Sample> {
     of_length(65_536)
 }
 
-/// Keys that fill keysheet's input of 65,536 bytes, with two counts and 60 coordinates before them,
-/// and the request's small key.
+/// The same for keysheet's input of at most 65,536 bytes, with two counts and 60 coordinates before
+/// the key.
 pub fn inputs() -> Vec<Sample> {
     of_length(65_536 - 2 - 4 * 60)
 }
 
-/// All cells, all calls, both in equal parts of so many bytes, and the request's small key.
+/// All cells, all calls, both in equal parts of so many bytes, the request's small key, a tower of
+/// forty levels, arrays of four bits a side, and a thousand arrays of three entries.
 fn of_length(bytes: usize) -> Vec<Sample> {
     let mut random = Random::of_case(1, 0);
     vec![
@@ -53,6 +54,9 @@ fn of_length(bytes: usize) -> Vec<Sample> {
             full(bytes, bytes / 42, bytes / 22 - 3),
         ),
         sample(&mut random, "small", small()),
+        sample(&mut random, "tower", tower(40, 3)),
+        sample(&mut random, "narrow", narrow(bytes)),
+        sample(&mut random, "many", many(bytes)),
     ]
 }
 
@@ -77,6 +81,59 @@ fn full(length: usize, cells: usize, calls: usize) -> Vec<Record> {
     records.push(Record::End);
     let empty = (length - bytes(&records).len()) / 3;
     records.splice(behind..behind, vec![Record::Sparse(0, 0); empty]);
+    records
+}
+
+/// A tower: so many levels above one cell, each with so many calls of the level below, under a head of
+/// 30 row and 30 column bits. The bits are shared out over the levels, so that some add none.
+fn tower(levels: usize, calls: usize) -> Vec<Record> {
+    let mut random = Random::of_case(3, 0);
+    let mut records = vec![Record::Head(BITS, BITS), Record::Sparse(0, 0)];
+    records.push(cell(&mut random, 0));
+    let bits = |level: usize| (level * usize::from(BITS) / levels) as u8;
+    for level in 1..=levels {
+        let more = bits(level) - bits(level - 1);
+        records.push(Record::Recursive(bits(level), bits(level)));
+        records.extend((0..calls).map(|_| call_of(&mut random, level - 1, more)));
+    }
+    records.push(Record::End);
+    records
+}
+
+/// A key of 4 row and 4 column bits that fills so many bytes: arrays of 200 cells, and a last one that
+/// calls each of them.
+fn narrow(length: usize) -> Vec<Record> {
+    let mut random = Random::of_case(4, 0);
+    let mut records = vec![Record::Head(4, 4)];
+    let arrays = (length - 7) / (3 + 21 * 200 + 11);
+    for _ in 0..arrays {
+        records.push(Record::Sparse(4, 4));
+        records.extend((0..200).map(|_| cell(&mut random, 4)));
+    }
+    records.push(Record::Recursive(4, 4));
+    records.extend((0..arrays).map(|id| call_of(&mut random, id, 0)));
+    records.push(Record::End);
+    records
+}
+
+/// A key of 30 row and 30 column bits and 1,023 arrays of three records: of every three arrays the first
+/// has cells, and the others call it; the last calls the first of all.
+fn many(length: usize) -> Vec<Record> {
+    let mut random = Random::of_case(5, 0);
+    let mut records = vec![Record::Head(BITS, BITS)];
+    for i in 0..1_023 {
+        if i % 3 == 0 {
+            records.push(Record::Sparse(CALLED_BITS, CALLED_BITS));
+            records.extend((0..3).map(|_| cell(&mut random, CALLED_BITS)));
+        } else {
+            let called = if i == 1_022 { 0 } else { i - i % 3 };
+            let bits = BITS - CALLED_BITS;
+            records.push(Record::Recursive(BITS, BITS));
+            records.extend((0..3).map(|_| call_of(&mut random, called, bits)));
+        }
+    }
+    records.push(Record::End);
+    assert!(bytes(&records).len() <= length, "the key is too long");
     records
 }
 
@@ -105,20 +162,29 @@ fn small() -> Vec<Record> {
 /// A cell at a random place of an array of so many row and column bits.
 fn cell(random: &mut Random, bits: u8) -> Record {
     Record::Cell(Cell {
-        row: random.number() >> (32 - bits),
-        column: random.number() >> (32 - bits),
+        row: number(random, bits),
+        column: number(random, bits),
         values: [(); 3].map(|()| random.number() % P),
     })
 }
 
 /// A call of array 0 at a random position.
 fn call(random: &mut Random) -> Record {
-    let bits = BITS - CALLED_BITS;
+    call_of(random, 0, BITS - CALLED_BITS)
+}
+
+/// A call of an array at a random position of so many row and column bits.
+fn call_of(random: &mut Random, id: usize, bits: u8) -> Record {
     Record::Call(Call {
-        id: 0,
-        row: random.number() >> (32 - bits),
-        column: random.number() >> (32 - bits),
+        id: id as u16,
+        row: number(random, bits),
+        column: number(random, bits),
     })
+}
+
+/// A random number of so many bits.
+fn number(random: &mut Random, bits: u8) -> u32 {
+    (u64::from(random.number()) >> (32 - bits)) as u32
 }
 
 /// A sample of these records, with a second key whose first cell has another C.

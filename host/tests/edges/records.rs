@@ -2,6 +2,7 @@
 
 use crate::independent::record::bytes;
 use crate::independent::record::Record::{End, Head, Recursive, Sparse};
+use crate::written::closed::VALUES;
 use crate::written::*;
 
 /// Refusal 1: 65,536 bytes pass, 65,537 are refused whatever they hold.
@@ -99,6 +100,48 @@ fn number_of_arrays() {
     let mut last = many[..1_023].to_vec();
     last.extend([Recursive(0, 0), call(1_022, 0, 0), call(0, 0, 0)]);
     accepts(&key(0, 0, &last), 1_024, 0, 2);
+}
+
+/// Keys that are nothing but arrays have as many as their bytes allow: every call has a place for each, whatever the key's length.
+#[test]
+fn nothing_but_arrays() {
+    let empty = |arrays: u32| key(0, 0, &vec![Sparse(0, 0); arrays as usize]);
+    for arrays in (1..=130).chain([1_023, 1_024]) {
+        let bytes = empty(arrays);
+        assert_eq!(bytes.len() as u32, 4 + 3 * arrays);
+        accepts(&bytes, arrays, 0, 0);
+        refuses(&bytes[..bytes.len() - 1], 2, 3 + 3 * u64::from(arrays));
+        let mut sheet = vec![9; 3 * arrays as usize];
+        assert_eq!(evaluate(&bytes, &[], &[], &mut sheet), Ok([0; 3]));
+        assert!(sheet.iter().all(|&value| value == 0));
+        assert_eq!(dense(&bytes, 0, 0), Ok([0; 3]));
+        let mut sheet = vec![9; 3 * 1_024];
+        for other in [empty(1), empty(62), empty(63), empty(1_024)] {
+            let there = compare(&bytes, &other, &[], &[], &mut sheet);
+            let back = compare(&other, &bytes, &[], &[], &mut sheet);
+            assert_eq!((there, back), (Ok(true), Ok(true)));
+        }
+    }
+}
+
+/// A last array that calls the first and the one before it, behind so many arrays that the key's length passes every border of a
+/// table's size.
+#[test]
+fn calls_behind_many_arrays() {
+    for between in (0..=70).chain([1_020, 1_021]) {
+        let mut body = vec![Sparse(0, 0), cell(0, 0, VALUES)];
+        body.extend(vec![Sparse(0, 0); between as usize]);
+        body.extend([Sparse(0, 0), cell(0, 0, [1, 0, P - 1])]);
+        body.push(Recursive(0, 0));
+        body.extend([call(0, 0, 0), call(between + 1, 0, 0)]);
+        let bytes = key(0, 0, &body);
+        accepts(&bytes, u32::from(between) + 3, 2, 2);
+        let wanted = [VALUES[0] + 1, VALUES[1], VALUES[2] - 1];
+        assert_eq!(values(&bytes, &[], &[]), Ok(wanted));
+        assert_eq!(dense(&bytes, 0, 0), Ok(wanted));
+        *body.last_mut().unwrap() = call(between + 2, 0, 0);
+        refuses(&key(0, 0, &body), 9, bytes.len() as u64 - 12);
+    }
 }
 
 /// Refusals 12 and 13: the last array's shape, then bytes behind the end, which are not read.
