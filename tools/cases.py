@@ -1,13 +1,14 @@
 #!/usr/bin/env python3
-"""Writes what the test program crates/cases is run on and what it must print, from 01-scope.md alone.
+"""Writes what the test programs crates/cases and crates/products are run on and what they must print, from 01-scope.md and
+from eq as 004 prints it alone.
 
 usage: cases.py [--check | --help]
 
-Without --check it writes crates/cases/stdin and crates/cases/stdout; with it, it says whether they are up to date and
-exits 1 where they are not. Edges that 01 words are written with the answer that 01 gives: those of evaluate and cell in
-evaluations.py and refusals.py, those of compare in comparisons.py and comparison_refusals.py. Every answer, of these and of
-the sweeps around them, is worked out by model.py from 01, and the two must agree. What compare answers at every point of a
-list of values is known in closed form alone (counts.py).
+Without --check it writes stdin and stdout of each program; with it, it says whether they are up to date and exits 1 where
+they are not. The cases of crates/products, on eq, are in products.py; what follows is of crates/cases. Edges that 01 words are
+written with the answer that 01 gives: those of evaluate and cell in evaluations.py and refusals.py, those of compare in
+comparisons.py and comparison_refusals.py. Every answer, of these and of the sweeps around them, is worked out by model.py from
+01, and the two must agree. What compare answers at every point of a list of values is known in closed form alone (counts.py).
 """
 
 import itertools
@@ -27,6 +28,7 @@ from model import (
     TOP,
     Refusal,
     accepted,
+    agreed,
     arithmetic,
     byte_words,
     cell,
@@ -37,6 +39,7 @@ from model import (
     joined,
     key,
     key_words,
+    listed,
     outcome,
     put,
     read,
@@ -45,9 +48,10 @@ from model import (
     valued,
     words,
 )
+from products import product_cases
 from refusals import refusal_cases
 
-FOLDER = pathlib.Path(__file__).resolve().parent.parent / "crates" / "cases"
+CRATES = pathlib.Path(__file__).resolve().parent.parent / "crates"
 OPERATIONS = {
     "sum": 1,
     "difference": 2,
@@ -71,13 +75,6 @@ FOLLOWING = {
     "head 1 1, sparse 1 1, recursive 1 1, call 0 0 0": ("sparse", "recursive", "call", "end"),
     "head 1 1, sparse 1 1, recursive 1 1, sparse 1 1": ("sparse", "recursive", "cell", "end"),
 }
-
-
-def agreed(wanted, answer):
-    """The answer worked out by the model, which must be the one that is worded, where one is."""
-    if wanted not in (None, answer):
-        raise ValueError(f"worded {wanted!r}, worked out {answer!r}")
-    return answer
 
 
 def array_count(data):
@@ -115,13 +112,6 @@ def settled(wanted, sheet):
     if wanted is None:
         return None
     return outcome(wanted, sheet) if isinstance(wanted, str) else valued(wanted[-1], wanted, sheet)
-
-
-def listed(numbers):
-    """Numbers in words, as '1 5 times 0', or 'none'."""
-    runs = ((x, len(list(same))) for x, same in itertools.groupby(numbers))
-    items = ([f"{count} times {x}"] if count > 3 else [str(x)] * count for x, count in runs)
-    return " ".join(itertools.chain(*items)) or "none"
 
 
 class Cases:
@@ -524,14 +514,8 @@ def check_cases(cases, draw):
     check_sweep(cases, draw)
 
 
-def main(arguments):
-    """Writes the two files, or holds them to what it would write."""
-    if arguments == ["--help"]:
-        print(__doc__.strip())
-        return 0
-    if arguments not in ([], ["--check"]):
-        print(__doc__.split("\n\n")[1], file=sys.stderr)
-        return 2
+def public_cases():
+    """All cases of the public calls."""
     cases, draw = Cases(), Draw()
     field_cases(cases, draw)
     take_cases(cases, draw)
@@ -542,15 +526,32 @@ def main(arguments):
     comparison_cases(cases, draw)
     comparison_refusals(cases, draw)
     count_cases(cases, draw)
-    files = {
-        FOLDER / "stdin": struct.pack("<I", len(cases.inputs)) + b"".join(cases.inputs.values()),
-        FOLDER / "stdout": b"".join(cases.inputs),
+    return cases
+
+
+def files_of(folder, inputs):
+    """What a program is run on and what it must print, by file."""
+    return {
+        folder / "stdin": struct.pack("<I", len(inputs)) + b"".join(inputs.values()),
+        folder / "stdout": b"".join(inputs),
     }
+
+
+def main(arguments):
+    """Writes the files of each program, or holds them to what it would write."""
+    if arguments == ["--help"]:
+        print(__doc__.strip())
+        return 0
+    if arguments not in ([], ["--check"]):
+        print(__doc__.split("\n\n")[1], file=sys.stderr)
+        return 2
+    files = files_of(CRATES / "cases", public_cases().inputs) | files_of(CRATES / "products", product_cases().inputs)
     for path, content in files.items():
         if not arguments:
             path.write_bytes(content)
         elif not path.exists() or path.read_bytes() != content:
-            print(f"cases.py: {path.name} of crates/cases is not what 01 gives: run tools/cases.py", file=sys.stderr)
+            name = f"{path.name} of crates/{path.parent.name}"
+            print(f"cases.py: {name} is not what the documents give: run tools/cases.py", file=sys.stderr)
             return 1
     return 0
 

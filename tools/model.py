@@ -40,6 +40,20 @@ def refused(number, place):
     return f"refused {number} at {place}"
 
 
+def agreed(wanted, answer):
+    """The answer worked out by the model, which must be the one that is worded, where one is."""
+    if wanted not in (None, answer):
+        raise ValueError(f"worded {wanted!r}, worked out {answer!r}")
+    return answer
+
+
+def listed(numbers):
+    """Numbers in words, as '1 5 times 0', or 'none'."""
+    runs = ((x, len(list(same))) for x, same in itertools.groupby(numbers))
+    items = ([f"{count} times {x}"] if count > 3 else [str(x)] * count for x, count in runs)
+    return " ".join(itertools.chain(*items)) or "none"
+
+
 def accepted(arrays, cells, calls, rows, columns):
     """The counts of an accepted key, n and n', as the program prints them."""
     return f"arrays {arrays} cells {cells} calls {calls} rows {rows} columns {columns}"
@@ -188,6 +202,14 @@ def check(data):
     except Refusal as refusal:
         return refused(*refusal.args)
     return accepted(len(arrays), entry_count("sparse", arrays), entry_count("recursive", arrays), *head)
+
+
+def eq(x, y):
+    """eq(x; y) of 004 (1.1.2): the product of the places' x·y + (1 - x)(1 - y)."""
+    product = 1
+    for a, b in zip(x, y, strict=True):
+        product *= a * b + (1 - a) * (1 - b)
+    return product % P
 
 
 def weight(number, coordinates):

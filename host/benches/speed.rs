@@ -1,13 +1,16 @@
 //! The archive beside the independent Rust pass, on the same inputs in one run: evaluate, check and
-//! compare on full-size keys, on a small one, on a tower and on keys of narrow and of many arrays. The rounds of all sides alternate, and the table
-//! gives medians. `Rust` multiplies factor by factor; `tables` takes five factors at a time from
-//! tables. (The archive takes three at a time where the key is long.)
+//! compare on full-size keys, on short ones and on sizes between, on towers and on keys of narrow and of
+//! many arrays. The rounds of all sides alternate, and the table gives medians. `Rust` multiplies factor by
+//! factor; `tables` takes five factors at a time from tables; `best` is the ratio to the better of the
+//! two, and the last line names the highest. (The archive takes limbs of five where they pay.)
 //!
 //! The reference beside evaluate is one bare chain of as many dependent products as the key has
 //! factors, and beside check a sum over the same bytes.
 //!
 //! Where `KEYSHEET` names the keysheet program and `EMPTY` a program that does nothing, both are
 //! run from start to end too.
+//!
+//! Arguments choose the keys whose names contain one of them: `cargo bench --bench speed -- tower`.
 
 #[path = "../tests/generator/mod.rs"]
 mod generator;
@@ -19,8 +22,14 @@ mod keys;
 mod measure;
 #[path = "speed/programs.rs"]
 mod programs;
+#[path = "speed/records.rs"]
+mod records;
 #[path = "speed/timed.rs"]
 mod timed;
+#[path = "speed/towers.rs"]
+mod towers;
+
+use std::env;
 
 use independent::pass;
 use independent::pass::factors::Factors;
@@ -29,23 +38,49 @@ use keys::Sample;
 use measure::Row;
 use morgana::Compared;
 
-/// Prints the table, and the times of the programs if they are named.
+/// Prints the table, the times of the programs if they are named, and the highest ratios.
 fn main() {
-    let samples = keys::samples();
+    let samples = chosen(keys::samples());
+    assert!(!samples.is_empty(), "no key has such a name");
     for sample in &samples {
         hold_equal(sample);
     }
     println!("{}", Row::heading());
-    for sample in &samples {
-        println!("{}", timed::evaluate(sample));
+    let evaluated = print(&samples, timed::evaluate);
+    print(&samples, timed::check);
+    let compared = print(&samples, timed::compare);
+    programs::run(&chosen(keys::inputs()));
+    let highest = [evaluated, compared].map(|rows| highest(&rows));
+    println!("highest best: {}", highest.join(", "));
+}
+
+/// The samples whose names contain one of the arguments; all where there is none.
+fn chosen(mut samples: Vec<Sample>) -> Vec<Sample> {
+    // Cargo adds an option of its own.
+    let is_word = |argument: &String| !argument.starts_with('-');
+    let words: Vec<String> = env::args().skip(1).filter(is_word).collect();
+    samples
+        .retain(|sample| words.is_empty() || words.iter().any(|word| sample.name.contains(word)));
+    samples
+}
+
+/// Times a call on every sample, and prints each row as it comes.
+fn print(samples: &[Sample], timed: fn(&Sample) -> Row) -> Vec<Row> {
+    let mut rows = Vec::new();
+    for sample in samples {
+        let row = timed(sample);
+        println!("{row}");
+        rows.push(row);
     }
-    for sample in &samples {
-        println!("{}", timed::check(sample));
-    }
-    for sample in &samples {
-        println!("{}", timed::compare(sample));
-    }
-    programs::run(&keys::inputs());
+    rows
+}
+
+/// The highest ratio to the better Rust pass, with its row.
+fn highest(rows: &[Row]) -> String {
+    let best = |row: &&Row| row.best().unwrap_or_default();
+    let highest = rows.iter().max_by(|a, b| best(a).total_cmp(&best(b)));
+    let row = highest.expect("some key is timed");
+    format!("{} {:.2} on {}", row.call, best(&row), row.sample)
 }
 
 /// Asserts that all sides give the same answers and sheets, before any is timed.
@@ -80,11 +115,17 @@ fn hold_equal(sample: &Sample) {
     assert_eq!(of_archive, of_factors);
     assert_eq!(of_archive, of_tables);
     let got = morgana::compare(key, other, rows, columns, of_archive);
-    assert_eq!(got.ok(), Some(Compared::Different));
+    let same = key == other;
+    let wanted = if same {
+        Compared::Same
+    } else {
+        Compared::Different
+    };
+    assert_eq!(got.ok(), Some(wanted));
     let answer = pass::compare::<Factors>(key, other, rows, columns, of_factors);
-    assert_eq!(answer, Ok(false));
+    assert_eq!(answer, Ok(same));
     let answer = pass::compare::<Tables>(key, other, rows, columns, of_tables);
-    assert_eq!(answer, Ok(false));
+    assert_eq!(answer, Ok(same));
     assert_eq!(of_archive, of_factors);
     assert_eq!(of_archive, of_tables);
 }

@@ -5,23 +5,23 @@ use mathlib.Core.List.{List}
 use mathlib.Core.Path.{_≡_, sym, ap, ap₂, _∙_}
 use lib.ListN.{length}
 use Rattle.refusal.specs.Outcome.{given}
-use Rattle.arrays.specs.Arrays.{Values}
 use Rattle.key.specs.Check.{checkedKey}
 use Rattle.key.specs.KeyArrays.{keyArrays}
 use Rattle.key.specs.declared.Counts.{Counts}
 use Rattle.evaluate.specs.Evaluate.{valuesAt, lastValues, evaluated}
 use Rattle.evaluate.specs.Inner.{AtPoint}
-use Rattle.evaluate.specs.Sheet.{wordsOf, laid}
+use Rattle.evaluate.specs.Sheet.{wordsOf}
 use Rattle.evaluate.proofs.Admission.{point-of, at-point}
 use Rattle.evaluate.proofs.PlaceByPlace.{answer-given, sheet-given}
 use Rattle.evaluate.proofs.Sheets.{laid-length}
 use Rattle.compare.specs.Compare.{Answer, pairJudged, likeness, compared}
+use Rattle.compare.specs.Inner.{writtenBy}
 use Rattle.compare.proofs.Comparisons.{both-evaluated}
 use Rattle.compare.proofs.Pairs.{Serves, pair-known}
 
 -- the sheet on which every array's values of a key stand
-abbrev pub passed : List ℕ → List ℕ → List ℕ → Counts → List ℕ → List ℕ
-passed key rows columns counts sheet = laid 0 (λ i. wordsOf (valuesAt (keyArrays key) rows columns i)) (counts .arrays) sheet
+abbrev passed : List ℕ → List ℕ → List ℕ → Counts → List ℕ → List ℕ
+passed key rows columns counts sheet = writtenBy key rows columns (counts .arrays) sheet
 
 passed-length : (key rows columns : List ℕ) (counts : Counts) (sheet : List ℕ) →
     length (passed key rows columns counts sheet) ≡ length sheet
@@ -46,23 +46,20 @@ module _ (first second rows columns sheet : List ℕ) (one other counts : Counts
   pub first-serves : Serves rows columns (length sheet) one
   first-serves = pair-known rows columns (length sheet) one other counts admits .0
 
-  -- on a sheet of the same length, as the first pass leaves it
-  second-serves : (between : List ℕ) → length between ≡ length sheet → Serves rows columns (length between) other
-  second-serves between e = rw e (pair-known rows columns (length sheet) one other counts admits .1)
+  second-serves : Serves rows columns (length sheet) other
+  second-serves = pair-known rows columns (length sheet) one other counts admits .1
 
   pub first-pass : AtPoint first rows columns × (3 * one .arrays ≤ length sheet)
   first-pass = (at-point first rows columns one accepts (first-serves .point), first-serves .room)
 
-  pub second-pass : (between : List ℕ) → between ≡ passed first rows columns one sheet →
-      AtPoint second rows columns × (3 * other .arrays ≤ length between)
-  second-pass between e =
-      let serves = second-serves between (ap length e ∙ passed-length first rows columns one sheet) in
-      (at-point second rows columns other accepts' (serves .point), serves .room)
+  pub second-pass : AtPoint second rows columns × (3 * other .arrays ≤ length sheet)
+  second-pass = (at-point second rows columns other accepts' (second-serves .point), second-serves .room)
 
   pub middle-serves : Serves rows columns (length (middle first rows columns sheet)) other
   middle-serves =
-      second-serves (middle first rows columns sheet)
-      (ap length (key-passed first rows columns sheet one accepts first-serves) ∙ passed-length first rows columns one sheet)
+      let same : length (middle first rows columns sheet) ≡ length sheet =
+      ap length (key-passed first rows columns sheet one accepts first-serves) ∙ passed-length first rows columns one sheet in
+      rw same second-serves
 
   pub first-answered : evaluated first rows columns sheet .answer ≡ given (lastValues first rows columns)
   first-answered = key-answered first rows columns sheet one accepts first-serves
@@ -71,13 +68,13 @@ module _ (first second rows columns sheet : List ℕ) (one other counts : Counts
       ≡ given (lastValues second rows columns)
   second-answered = key-answered second rows columns (middle first rows columns sheet) other accepts' middle-serves
 
-  pub both-passed : (values values' : Values) (answer : Answer) (between after : List ℕ) →
-      values ≡ lastValues first rows columns → values' ≡ lastValues second rows columns → answer ≡ likeness values values' →
-      between ≡ passed first rows columns one sheet → after ≡ passed second rows columns other between →
+  pub both-passed : (answer : Answer) (after : List ℕ) →
+      answer ≡ likeness (lastValues first rows columns) (lastValues second rows columns) →
+      after ≡ passed second rows columns other (passed first rows columns one sheet) →
       compared first second rows columns sheet ≡ record { answer = answer; sheet = after }
-  both-passed values values' answer between after v v' a b e =
+  both-passed answer after a e =
       both-evaluated first second rows columns sheet one accepts other accepts' counts admits
-      ∙ sym (ap₂ (λ (x : Answer) (y : List ℕ). record { answer = x; sheet = y }) (a ∙ ap₂ likeness v v')
+      ∙ sym (ap₂ (λ (x : Answer) (y : List ℕ). record { answer = x; sheet = y }) a
       (e
-      ∙ ap (passed second rows columns other) (b ∙ sym (key-passed first rows columns sheet one accepts first-serves))
+      ∙ ap (passed second rows columns other) (sym (key-passed first rows columns sheet one accepts first-serves))
       ∙ sym (key-passed second rows columns (middle first rows columns sheet) other accepts' middle-serves)))

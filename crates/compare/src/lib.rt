@@ -1,16 +1,14 @@
 // Two keys compared at a point (01, 'Comparing two keys').
+mod both;
 mod judge;
 
-use evaluate::Values;
-use evaluate::pass;
 use key::Checked;
 use refusal::Refusal;
 ghost use mathlib.Core.Path.{_≡_};
 ghost use Prim.Native.Nat.{min, _/_, _≤_};
 ghost use lib.ListN.{length};
-ghost use Rattle.evaluate.specs.Evaluate.{valuesIn};
 ghost use Rattle.compare.specs.AgreementBound.{Agreement};
-ghost use Rattle.compare.specs.Compare.{comparedAnswer, likeness, compared};
+ghost use Rattle.compare.specs.Compare.{comparedAnswer, compared};
 
 // The key that a refusal is about.
 pub enum Which {
@@ -100,39 +98,15 @@ fn by_tables(
         Checked::Refused(refusal) => return Compared::Refused(Which::Neither, refusal),
         Checked::Accepted(_) => (),
     }
-    pass::run(
+    both::run(
         first,
-        first_starts,
+        &*first_starts,
         first_counts.arrays,
-        rows,
-        columns,
-        sheet,
-    );
-    let first_values = pass::last(sheet, first_counts.arrays);
-    pass::run(
         second,
-        second_starts,
+        &*second_starts,
         second_counts.arrays,
         rows,
         columns,
         sheet,
-    );
-    let second_values = pass::last(sheet, second_counts.arrays);
-    likeness(first_values, second_values)
-}
-
-// Whether all three numbers are equal.
-fn likeness(one: Values, other: Values) -> Compared
-    ensures { λ r. ⌜ comparedAnswer r ≡ likeness (valuesIn one) (valuesIn other) ⌝ }
-{
-    if one.a.value() != other.a.value() {
-        return Compared::Different;
-    }
-    if one.b.value() != other.b.value() {
-        return Compared::Different;
-    }
-    if one.c.value() != other.c.value() {
-        return Compared::Different;
-    }
-    Compared::Same
+    )
 }

@@ -2,6 +2,7 @@
 use Prim.Native.Nat.{ℕ, _+_, _-_, _≤_, _<_}
 use mathlib.Core.List.{List, [], _∷_, _++_}
 use mathlib.Core.Path.{_≡_, refl, sym, ap, subst, _∙_}
+use native.Mathlib.Decide.{decLt}
 use native.Mathlib.Omega.{arith}
 use lib.ListN.{length, getD, List·getD-append}
 use lib.Seq.{getD-at}
@@ -9,6 +10,7 @@ use Rattle.records.specs.Kinds.{encoded}
 use Rattle.records.specs.Take.{takenOutcome, takenAt}
 use Rattle.records.specs.declared.Record.{Record}
 use Rattle.records.specs.declared.Taken.{Taken}
+use Rattle.records.proofs.Present.{taken-present}
 use Rattle.records.proofs.Taking.{given-onward}
 use Rattle.arrays.specs.Arrays.{Entries, cells, calls, Array, arrayAt}
 use Rattle.key.specs.Accepted.{Accepted}
@@ -18,7 +20,7 @@ use Rattle.key.specs.Inner.{Stands}
 use Rattle.key.specs.KeyArrays.{keyArrays}
 use Rattle.key.proofs.Acceptance.{acceptance}
 use Rattle.key.proofs.Openings.{opening-stands}
-use Rattle.evaluate.specs.Inner.{Indexed}
+use Rattle.evaluate.specs.Inner.{Indexed, Sparse, Recursive}
 
 opening-length : (k k' : ℕ) (entries : Entries) → length (encoded (openingRecord k k' entries)) ≡ 3
 opening-length k k' (cells list) = refl
@@ -29,7 +31,7 @@ module _ (key starts : List ℕ) (indexed : Indexed key starts) where
   accepts = acceptance key (indexed .counts) (indexed .accepted)
 
   -- the offset behind an array's entries
-  abbrev behindArray : ℕ → ℕ
+  abbrev pub behindArray : ℕ → ℕ
   behindArray i = getD (startsOf key ++ ((length key - 1) ∷ [])) (i + 1) 0
 
   module _ (i : ℕ) (l : i < length (keyArrays key)) where
@@ -62,6 +64,29 @@ module _ (key starts : List ℕ) (indexed : Indexed key starts) where
     pub opening-inside : (getD starts i 0 + 3 ≤ length key) × (length key ≤ 65536)
     opening-inside = (given-onward key (getD starts i 0) _ opened .1, accepts .at-most-65536)
 
+    -- the opening's kind says which entries follow
+    pub opens-cells : getD key (getD starts i 0) 0 ≡ 2 → Sparse (own .entries)
+    unfolding opening
+    opens-cells e = go (own .entries) opened
+      where
+        go : (entries : Entries) →
+            takenAt key (getD starts i 0) ≡
+            takenOutcome (Taken.Record (openingRecord (own .row-bits) (own .column-bits) entries) (getD starts i 0 + 3)) →
+            Sparse entries
+        go (cells list) taken = tt
+        go (calls list) taken = absurd (omega (arith, e, taken-present key (getD starts i 0) (Record.Recursive _) _ taken .0 .kind))
+
+    pub opens-calls : (getD key (getD starts i 0) 0 ≡ 2 → ⊥) → Recursive (own .entries)
+    unfolding opening
+    opens-calls other = go (own .entries) opened
+      where
+        go : (entries : Entries) →
+            takenAt key (getD starts i 0) ≡
+            takenOutcome (Taken.Record (openingRecord (own .row-bits) (own .column-bits) entries) (getD starts i 0 + 3)) →
+            Recursive entries
+        go (cells list) taken = absurd (other (taken-present key (getD starts i 0) (Record.Sparse _) _ taken .0 .kind))
+        go (calls list) taken = tt
+
     -- its shape stands behind its kind
     pub opening-shape : Stands key (getD starts i 0) (record { rows = own .row-bits; columns = own .column-bits })
     unfolding opening
@@ -85,3 +110,11 @@ module _ (key starts : List ℕ) (indexed : Indexed key starts) where
 
     pub behind-last : i + 1 ≡ length (keyArrays key) → length key - 1 ≡ behindArray i
     behind-last e = sym (getD-at (startsOf key) (length key - 1) [] 0 (i + 1) (accepts .index .one-each ∙ sym e))
+
+    pub behind-inside : i < length (keyArrays key) → (behindArray i ≤ length key) × (length key ≤ 65536)
+    behind-inside l =
+        elim (decLt (i + 1) (length (keyArrays key))) [
+          | yes m ↦ (omega (arith, behind-next m, opening-inside (i + 1) m), accepts .at-most-65536)
+          | no m ↦ (let e : i + 1 ≡ length (keyArrays key) = omega (arith, l, m) in
+              (omega (arith, behind-last e), accepts .at-most-65536))
+        ]

@@ -1,11 +1,9 @@
-pub mod Cutting
-pub mod Weighing
-pub mod Tabulating
 pub mod FirstOver
 pub mod Judgements
 pub mod Filling
 pub mod Sheets
 pub mod Indexing
+pub mod Sums
 pub mod Adding
 pub mod Added
 pub mod Turns

@@ -1,20 +1,21 @@
 // One array of an accepted key: its shape, and its values from those of the arrays before it.
 use crate::Values;
 use crate::entry;
+use crate::entry::Sums;
 use field::Fp;
-use records::Record;
 use records::Shape;
 use records::read;
+use weights::side;
 ghost use mathlib.Core.Path.{_≡_};
 ghost use mathlib.Core.List.{[], _∷_, _++_};
-ghost use Prim.Native.Nat.{min, _+_, _-_, _<_};
+ghost use Prim.Native.Nat.{_+_, _-_, _<_};
 ghost use lib.ListN.{length, getD};
-ghost use Rattle.records.specs.Take.{takenOutcome, takenAt};
-ghost use Rattle.records.specs.declared.Taken.{Taken};
+ghost use Rattle.arrays.specs.Arrays.{arrayAt};
+ghost use Rattle.weights.specs.Side.{prepared};
 ghost use Rattle.key.specs.Index.{startsOf};
 ghost use Rattle.key.specs.KeyArrays.{keyArrays};
 ghost use Rattle.evaluate.specs.Evaluate.{valuesIn};
-ghost use Rattle.evaluate.specs.Inner.{Indexed, AtPoint, Tabled, Filled, EntryAt, shapeAt, nextValues};
+ghost use Rattle.evaluate.specs.Inner.{Indexed, Sides, ReachedIn, Sparse, Recursive, Filled, reducedIn, shapeAt, nextValues};
 
 // The shape of array i: the two bytes behind its opening's kind. Inner: the key is accepted and indexed, and has such an array.
 pub(crate) fn shape(key: &[u8], starts: &[u16], i: usize) -> Shape
@@ -25,15 +26,15 @@ pub(crate) fn shape(key: &[u8], starts: &[u16], i: usize) -> Shape
     rules::shape_at(key, starts, i)
 }
 
-// The values of array i, in a key that has so many arrays: its entries, added up one by one. Inner: the key is accepted and
-// indexed, the point is one for it, the tables are the point's, and the values of the arrays before stand on the sheet.
+// The values of array i, in a key that has so many arrays: the sums of what its entries add. The two sides of the point have as many
+// coordinates as `most` has bits. Inner: the key is accepted and indexed, the tables are ones for it, and the values of the arrays
+// before stand on the sheet.
 pub(crate) fn values(
     key: &[u8],
     starts: &[u16],
     arrays: usize,
     i: usize,
-    rows: &[u32],
-    columns: &[u32],
+    most: Shape,
     rowwise: &[u32],
     columnwise: &[u32],
     sheet: &[u32],
@@ -41,72 +42,111 @@ pub(crate) fn values(
     requires { ⌜ Indexed (now key) (now starts) ⌝ }
     requires { ⌜ arrays ≡ length (keyArrays (now key)) ⌝ }
     requires { ⌜ i < arrays ⌝ }
-    requires { ⌜ AtPoint (now key) (now rows) (now columns) ⌝ }
-    requires { ⌜ Tabled (min 30 (length (now rows))) (now rows) (now rowwise) ⌝ }
-    requires { ⌜ Tabled (min 30 (length (now columns))) (now columns) (now columnwise) ⌝ }
+    requires { ⌜ Sides (now key) most (now rowwise) (now columnwise) ⌝ }
     requires { ⌜ Filled i (now sheet) ⌝ }
-    ensures { λ r. ⌜ valuesIn r ≡ nextValues (keyArrays (now (key .entry))) (now (rows .entry)) (now (columns .entry)) (now (sheet .entry)) i ⌝ }
+    ensures { λ r. ⌜ valuesIn r ≡ nextValues (keyArrays (now (key .entry))) (prepared (now (rowwise .entry))) (prepared (now (columnwise .entry))) (now (sheet .entry)) i ⌝ }
 {
     let own = shape(key, starts, i);
-    let to = behind(key, starts, arrays, i);
-    let mut sum = Values {
-        a: Fp::zero(),
-        b: Fp::zero(),
-        c: Fp::zero(),
+    let reached = Shape {
+        rows: side::reach(own.rows, most.rows, rowwise),
+        columns: side::reach(own.columns, most.columns, columnwise),
     };
+    let sums = total(key, starts, arrays, i, reached, rowwise, columnwise, sheet);
+    Values {
+        a: Fp::remainder(sums.a),
+        b: Fp::remainder(sums.b),
+        c: Fp::remainder(sums.c),
+    }
+}
+
+// The same, not reduced yet, where weights are taken over so many bits. Inner: as for `values`, and they may be taken so far.
+fn total(
+    key: &[u8],
+    starts: &[u16],
+    arrays: usize,
+    i: usize,
+    reached: Shape,
+    rowwise: &[u32],
+    columnwise: &[u32],
+    sheet: &[u32],
+) -> Sums
+    requires { ⌜ Indexed (now key) (now starts) ⌝ }
+    requires { ⌜ arrays ≡ length (keyArrays (now key)) ⌝ }
+    requires { ⌜ i < arrays ⌝ }
+    requires { ⌜ ReachedIn (keyArrays (now key)) i reached (now rowwise) (now columnwise) ⌝ }
+    requires { ⌜ Filled i (now sheet) ⌝ }
+    ensures { λ r. ⌜ reducedIn r ≡ nextValues (keyArrays (now (key .entry))) (prepared (now (rowwise .entry))) (prepared (now (columnwise .entry))) (now (sheet .entry)) i ⌝ }
+{
+    let opening = starts[i] as usize;
+    if key[opening] == 2 {
+        cells(key, starts, arrays, i, reached, rowwise, columnwise, sheet)
+    } else {
+        calls(key, starts, arrays, i, reached, rowwise, columnwise, sheet)
+    }
+}
+
+// The same of a sparse array: its cells, added up one by one. Inner: as for `total`, whatever stands on the sheet.
+fn cells(
+    key: &[u8],
+    starts: &[u16],
+    arrays: usize,
+    i: usize,
+    reached: Shape,
+    rowwise: &[u32],
+    columnwise: &[u32],
+    sheet: &[u32],
+) -> Sums
+    requires { ⌜ Indexed (now key) (now starts) ⌝ }
+    requires { ⌜ arrays ≡ length (keyArrays (now key)) ⌝ }
+    requires { ⌜ i < arrays ⌝ }
+    requires { ⌜ Sparse (arrayAt (keyArrays (now key)) i .entries) ⌝ }
+    requires { ⌜ ReachedIn (keyArrays (now key)) i reached (now rowwise) (now columnwise) ⌝ }
+    ensures { λ r. ⌜ reducedIn r ≡ nextValues (keyArrays (now (key .entry))) (prepared (now (rowwise .entry))) (prepared (now (columnwise .entry))) (now (sheet .entry)) i ⌝ }
+{
+    let to = behind(key, starts, arrays, i);
+    let mut sums = Sums { a: 0, b: 0, c: 0 };
     let mut at = starts[i] as usize + 3;
     while at < to {
-        let step = entry_at(key, at);
-        let item = step.item;
-        sum = entry::add(
-            sum,
-            item,
-            key,
-            starts,
-            i,
-            own,
-            rows,
-            columns,
-            rowwise,
-            columnwise,
-            sheet,
-        );
-        at = step.next;
+        let c = read::cell(key, at + 1);
+        sums = entry::cell(sums, c, reached, rowwise, columnwise);
+        at = at + 21;
     }
-    sum
+    sums
 }
 
-// An entry, and the offset behind it.
-struct Step {
-    item: Record,
-    next: usize,
-}
-
-// The cell or the call at an offset, read by its kind. Inner: one of them is there.
-fn entry_at(key: &[u8], at: usize) -> Step
-    requires { ⌜ EntryAt (now key) at ⌝ }
-    ensures { λ r. ⌜ takenOutcome (Taken.Record (r .item) (r .next)) ≡ takenAt (now (key .entry)) at ⌝ }
+// The same of a recursive array: its calls, added up one by one. Inner: as for `total`.
+fn calls(
+    key: &[u8],
+    starts: &[u16],
+    arrays: usize,
+    i: usize,
+    reached: Shape,
+    rowwise: &[u32],
+    columnwise: &[u32],
+    sheet: &[u32],
+) -> Sums
+    requires { ⌜ Indexed (now key) (now starts) ⌝ }
+    requires { ⌜ arrays ≡ length (keyArrays (now key)) ⌝ }
+    requires { ⌜ i < arrays ⌝ }
+    requires { ⌜ Recursive (arrayAt (keyArrays (now key)) i .entries) ⌝ }
+    requires { ⌜ ReachedIn (keyArrays (now key)) i reached (now rowwise) (now columnwise) ⌝ }
+    requires { ⌜ Filled i (now sheet) ⌝ }
+    ensures { λ r. ⌜ reducedIn r ≡ nextValues (keyArrays (now (key .entry))) (prepared (now (rowwise .entry))) (prepared (now (columnwise .entry))) (now (sheet .entry)) i ⌝ }
 {
-    let body = at + 1;
-    if key[at] == 4 {
-        let c = read::cell(key, body);
-        let behind_cell = at + 21;
-        return Step {
-            item: Record::Cell(c),
-            next: behind_cell,
-        };
+    let to = behind(key, starts, arrays, i);
+    let mut sums = Sums { a: 0, b: 0, c: 0 };
+    let mut at = starts[i] as usize + 3;
+    while at < to {
+        let c = read::call(key, at + 1);
+        sums = entry::call(sums, c, key, starts, reached, rowwise, columnwise, sheet);
+        at = at + 11;
     }
-    let c = read::call(key, body);
-    let behind_call = at + 11;
-    Step {
-        item: Record::Call(c),
-        next: behind_call,
-    }
+    sums
 }
 
 // The offset behind array i's entries, in a key that has so many arrays: that of the next opening or of the end. Inner: the key
 // is accepted and indexed, and has such an array.
-fn behind(key: &[u8], starts: &[u16], arrays: usize, i: usize) -> usize
+pub(crate) fn behind(key: &[u8], starts: &[u16], arrays: usize, i: usize) -> usize
     requires { ⌜ Indexed (now key) (now starts) ⌝ }
     requires { ⌜ arrays ≡ length (keyArrays (now key)) ⌝ }
     requires { ⌜ i < arrays ⌝ }

@@ -5,6 +5,7 @@ pub mod judge;
 pub mod pass;
 mod point;
 mod sheet;
+pub mod work;
 
 use field::Fp;
 use key::Checked;

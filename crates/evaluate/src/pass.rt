@@ -1,19 +1,22 @@
 // One pass over the arrays of an accepted key (004, Lemma 2).
 use crate::Values;
 use crate::array;
-use crate::point;
 use crate::sheet;
+use crate::work;
+use records::Shape;
+use weights::table;
 ghost use mathlib.Core.Path.{_≡_};
-ghost use Prim.Native.Nat.{min, _*_, _-_, _<_, _≤_};
+ghost use Prim.Native.Nat.{_*_, _-_, _<_, _≤_};
 ghost use lib.ListN.{length};
+ghost use Rattle.weights.specs.Side.{prepared, Ready};
 ghost use Rattle.key.specs.KeyArrays.{keyArrays};
 ghost use Rattle.evaluate.specs.Evaluate.{valuesIn, valuesAt};
-ghost use Rattle.evaluate.specs.Inner.{Indexed, AtPoint, Tabled, Filled, sheetValues, passedValues};
+ghost use Rattle.evaluate.specs.Inner.{Indexed, AtPoint, Sides, Filled, sheetValues, passedValues};
 ghost use Rattle.evaluate.specs.Sheet.{wordsOf, laid};
 
-// Writes every array's values on the sheet: the extensions of their dense matrices. Tables of the point are made where the key is
-// long enough for them to save more than they cost. Inner: the key is accepted and indexed, the point is one for it, and the sheet
-// has places for all.
+// Writes every array's values on the sheet: the extensions of their dense matrices. The sides of the point are prepared with weights of
+// limbs where these are estimated to save more than they cost (`work`). Inner: the key is accepted and indexed, the point is one for it, and the sheet has
+// places for all.
 //
 // The table of offsets is borrowed anew for the pass, which is faster on small keys (docs/PERFORMANCE.md).
 pub fn run(
@@ -30,24 +33,83 @@ pub fn run(
     requires { ⌜ 3 * arrays ≤ length (now sheet) ⌝ }
     ensures { λ _. ⌜ now (sheet .exit) ≡ laid 0 (λ i. wordsOf (valuesAt (keyArrays (now (key .entry))) (now (rows .entry)) (now (columns .entry)) i)) arrays (now (sheet .entry)) ⌝ }
 {
-    if key.len() < 512 {
-        let none = &rows[..0];
-        return pass(key, &*starts, arrays, rows, columns, none, none, sheet);
+    let saved = work::saved(key, starts, arrays);
+    if work::limbs_pay(saved, rows.len() + columns.len()) {
+        let mut rowwise = [0u32; 448];
+        let mut columnwise = [0u32; 448];
+        return by_sides(
+            key,
+            &*starts,
+            arrays,
+            rows,
+            columns,
+            &mut rowwise,
+            &mut columnwise,
+            sheet,
+        );
     }
-    let mut rowwise = [0u32; 224];
-    let mut columnwise = [0u32; 224];
-    point::tabulate(rows, &mut rowwise);
-    point::tabulate(columns, &mut columnwise);
-    pass(
+    let mut rowwise = [0u32; 64];
+    let mut columnwise = [0u32; 64];
+    by_sides(
         key,
         &*starts,
         arrays,
         rows,
         columns,
-        &rowwise,
-        &columnwise,
+        &mut rowwise,
+        &mut columnwise,
         sheet,
     )
+}
+
+// The same, with tables to be filled for the two sides. Inner: they have places for them.
+fn by_sides(
+    key: &[u8],
+    starts: &[u16],
+    arrays: usize,
+    rows: &[u32],
+    columns: &[u32],
+    rowwise: &mut [u32],
+    columnwise: &mut [u32],
+    sheet: &mut [u32],
+)
+    requires { ⌜ Indexed (now key) (now starts) ⌝ }
+    requires { ⌜ arrays ≡ length (keyArrays (now key)) ⌝ }
+    requires { ⌜ AtPoint (now key) (now rows) (now columns) ⌝ }
+    requires { ⌜ 3 * arrays ≤ length (now sheet) ⌝ }
+    requires { ⌜ Ready (now rowwise) × Ready (now columnwise) ⌝ }
+    ensures { λ _. ⌜ now (sheet .exit) ≡ laid 0 (λ i. wordsOf (valuesAt (keyArrays (now (key .entry))) (now (rows .entry)) (now (columns .entry)) i)) arrays (now (sheet .entry)) ⌝ }
+{
+    let most = Shape {
+        rows: rows.len() as u8,
+        columns: columns.len() as u8,
+    };
+    table::prepare(rows, rowwise);
+    table::prepare(columns, columnwise);
+    over(key, starts, arrays, most, rowwise, columnwise, sheet)
+}
+
+// Writes every array's values on the sheet, each from those of the arrays before it, by the prepared sides of a point, which have as many
+// coordinates as `most` has bits. Inner: the key is accepted and indexed, the tables are ones for it, and the sheet has places for all.
+pub fn over(
+    key: &[u8],
+    starts: &[u16],
+    arrays: usize,
+    most: Shape,
+    rowwise: &[u32],
+    columnwise: &[u32],
+    sheet: &mut [u32],
+)
+    requires { ⌜ Indexed (now key) (now starts) ⌝ }
+    requires { ⌜ arrays ≡ length (keyArrays (now key)) ⌝ }
+    requires { ⌜ Sides (now key) most (now rowwise) (now columnwise) ⌝ }
+    requires { ⌜ 3 * arrays ≤ length (now sheet) ⌝ }
+    ensures { λ _. ⌜ now (sheet .exit) ≡ laid 0 (λ i. wordsOf (passedValues (keyArrays (now (key .entry))) (prepared (now (rowwise .entry))) (prepared (now (columnwise .entry))) i)) arrays (now (sheet .entry)) ⌝ }
+{
+    for i in 0..arrays {
+        let values = array::values(key, starts, arrays, i, most, rowwise, columnwise, sheet);
+        sheet::put(sheet, i, values);
+    }
 }
 
 // The last array's values, where those of so many arrays stand on the sheet. Inner: there is a last array, and all are below p.
@@ -56,40 +118,4 @@ pub fn last(sheet: &[u32], arrays: usize) -> Values
     ensures { λ r. ⌜ valuesIn r ≡ sheetValues (now (sheet .entry)) (arrays - 1) ⌝ }
 {
     sheet::values(sheet, arrays - 1)
-}
-
-// Writes every array's values on the sheet, each from those of the arrays before it. Inner: as for `run`, and the
-// tables are the point's.
-fn pass(
-    key: &[u8],
-    starts: &[u16],
-    arrays: usize,
-    rows: &[u32],
-    columns: &[u32],
-    rowwise: &[u32],
-    columnwise: &[u32],
-    sheet: &mut [u32],
-)
-    requires { ⌜ Indexed (now key) (now starts) ⌝ }
-    requires { ⌜ arrays ≡ length (keyArrays (now key)) ⌝ }
-    requires { ⌜ AtPoint (now key) (now rows) (now columns) ⌝ }
-    requires { ⌜ Tabled (min 30 (length (now rows))) (now rows) (now rowwise) ⌝ }
-    requires { ⌜ Tabled (min 30 (length (now columns))) (now columns) (now columnwise) ⌝ }
-    requires { ⌜ 3 * arrays ≤ length (now sheet) ⌝ }
-    ensures { λ _. ⌜ now (sheet .exit) ≡ laid 0 (λ i. wordsOf (passedValues (keyArrays (now (key .entry))) (now (rows .entry)) (now (columns .entry)) i)) arrays (now (sheet .entry)) ⌝ }
-{
-    for i in 0..arrays {
-        let values = array::values(
-            key,
-            starts,
-            arrays,
-            i,
-            rows,
-            columns,
-            rowwise,
-            columnwise,
-            sheet,
-        );
-        sheet::put(sheet, i, values);
-    }
 }

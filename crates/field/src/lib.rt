@@ -3,9 +3,7 @@
 use refusal::Reason;
 use refusal::Refusal;
 ghost use mathlib.Core.Path.{_≡_};
-ghost use mathlib.Core.Bool.{cond};
-ghost use Prim.Native.Nat.{_<_};
-ghost use lib.Dec.{eqb};
+ghost use Prim.Native.Nat.{_+_, _*_, _/_, _%_, _<_, _≤_};
 ghost use Rattle.refusal.specs.Outcome.{refuse};
 ghost use Rattle.field.specs.Fp.{p, fp};
 ghost use Rattle.field.specs.Answer.{answerOutcome, operated};
@@ -58,14 +56,6 @@ impl Fp {
         self.0
     }
 
-    // The first element where the bit is 1, otherwise the second. Both are at hand, so that the test compiles to a move and not to
-    // a branch: bits without a pattern cost no more than others.
-    pub fn choose(bit: u32, first: Fp, second: Fp) -> Fp
-        ensures { λ r. ⌜ r .0 ≡ cond (eqb bit 1) (first .0) (second .0) ⌝ }
-    {
-        if bit == 1 { first } else { second }
-    }
-
     // The sum. Inner: both are below p.
     pub fn add(self, other: Fp) -> Fp
         requires { ⌜ (self .0 < p) × (other .0 < p) ⌝ }
@@ -96,14 +86,43 @@ impl Fp {
         requires { ⌜ (self .0 < p) × (other .0 < p) ⌝ }
         ensures { λ r. ⌜ r .0 ≡ fp .mul (self .0) (other .0) ⌝ }
     {
-        // The bits from bit 31 on are a multiple of 2^31, and so of 1 modulo p: they are added to those below.
-        let full = (self.0 as u64) * (other.0 as u64);
-        let folded = full / Fp::FOLD + full % Fp::FOLD;
+        let folded = Fp::folded((self.0 as u64) * (other.0 as u64));
         if folded < Fp::P as u64 {
             Fp(folded as u32)
         } else {
             Fp((folded - Fp::P as u64) as u32)
         }
+    }
+
+    // A number that is the same modulo p, and smaller: 2^31 is 1 modulo p, so that the bits from bit 31 on are added to those below.
+    pub fn folded(number: u64) -> u64
+        ensures { λ r. ⌜ (r % p ≡ number % p) × (r ≤ number / 2147483648 + 2147483647) ⌝ }
+    {
+        number / Fp::FOLD + number % Fp::FOLD
+    }
+
+    // A number that is the product modulo p, of a number that need not be below p and an element: greater than the number by less than
+    // 2^31. Inner: the number is below 2^33, the element below p.
+    pub fn times(number: u64, other: Fp) -> u64
+        requires { ⌜ (number < 8589934592) × (other .0 < p) ⌝ }
+        ensures { λ r. ⌜ (r % p ≡ fp .mul (number % p) (other .0)) × (r ≤ number + 2147483647) ⌝ }
+    {
+        Fp::folded(number * (other.0 as u64))
+    }
+
+    // The same of two numbers: greater than twice the first by less than 2^31. Inner: both are below 2^32.
+    pub fn product(one: u64, other: u64) -> u64
+        requires { ⌜ (one < 4294967296) × (other < 4294967296) ⌝ }
+        ensures { λ r. ⌜ (r % p ≡ fp .mul (one % p) (other % p)) × (r ≤ 2 * one + 2147483647) ⌝ }
+    {
+        Fp::folded(one * other)
+    }
+
+    // The element that a number is modulo p.
+    pub fn remainder(number: u64) -> Fp
+        ensures { λ r. ⌜ r .0 ≡ number % p ⌝ }
+    {
+        Fp((number % (Fp::P as u64)) as u32)
     }
 }
 

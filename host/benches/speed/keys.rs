@@ -1,18 +1,15 @@
-//! The keys that are timed, with a point each. Addresses, positions, values and coordinates are
-//! random.
+//! The keys that are timed, with a random point each.
 
 use crate::generator::random::Random;
 use crate::independent::key::{read, Body};
-use crate::independent::record::{bytes, Call, Cell, Record};
+use crate::independent::record::{bytes, Record};
+use crate::records::{calls, cells, full, many, narrow, small};
+use crate::towers;
 
 /// The prime p.
 const P: u32 = morgana::P;
-/// The row bits and the column bits of the full-size keys.
-const BITS: u8 = 30;
-/// The row bits and the column bits of the array that is called.
-const CALLED_BITS: u8 = 2;
 
-/// A key to time, another that differs from it, and a point.
+/// A key to time, another that differs from it where it has a cell, and a point.
 pub struct Sample {
     pub name: &'static str,
     pub key: Vec<u8>,
@@ -30,12 +27,14 @@ impl Sample {
     }
 }
 
-/// Keys of at most 65,536 bytes, the request's small key among them.
+/// Keys of at most 65,536 bytes, the request's small key among them, and shorter ones.
 pub fn samples() -> Vec<Sample> {
-    of_length(65_536)
+    let mut samples = of_length(65_536);
+    samples.extend(shorter());
+    samples
 }
 
-/// The same for keysheet's input of at most 65,536 bytes, with two counts and 60 coordinates before
+/// The keys for keysheet's input of at most 65,536 bytes, with two counts and 60 coordinates before
 /// the key.
 pub fn inputs() -> Vec<Sample> {
     of_length(65_536 - 2 - 4 * 60)
@@ -54,137 +53,37 @@ fn of_length(bytes: usize) -> Vec<Sample> {
             full(bytes, bytes / 42, bytes / 22 - 3),
         ),
         sample(&mut random, "small", small()),
-        sample(&mut random, "tower", tower(40, 3)),
+        sample(&mut random, "tower", towers::shared_out(40, 3)),
         sample(&mut random, "narrow", narrow(bytes)),
         sample(&mut random, "many", many(bytes)),
     ]
 }
 
-/// A key of 30 row and 30 column bits with so many cells and calls: the cells in one array of all
-/// bits, but for one in a small array, which the calls call. Empty arrays fill it up to at most two
-/// bytes less than its length.
-fn full(length: usize, cells: usize, calls: usize) -> Vec<Record> {
-    let mut random = Random::of_case(2, 0);
-    let mut records = vec![Record::Head(BITS, BITS)];
-    if calls > 0 {
-        records.push(Record::Sparse(CALLED_BITS, CALLED_BITS));
-        records.push(cell(&mut random, CALLED_BITS));
-    }
-    let behind = records.len();
-    records.push(Record::Sparse(BITS, BITS));
-    let more = cells - usize::from(calls > 0);
-    records.extend((0..more).map(|_| cell(&mut random, BITS)));
-    if calls > 0 {
-        records.push(Record::Recursive(BITS, BITS));
-        records.extend((0..calls).map(|_| call(&mut random)));
-    }
-    records.push(Record::End);
-    let empty = (length - bytes(&records).len()) / 3;
-    records.splice(behind..behind, vec![Record::Sparse(0, 0); empty]);
-    records
-}
-
-/// A tower: so many levels above one cell, each with so many calls of the level below, under a head of
-/// 30 row and 30 column bits. The bits are shared out over the levels, so that some add none.
-fn tower(levels: usize, calls: usize) -> Vec<Record> {
-    let mut random = Random::of_case(3, 0);
-    let mut records = vec![Record::Head(BITS, BITS), Record::Sparse(0, 0)];
-    records.push(cell(&mut random, 0));
-    let bits = |level: usize| (level * usize::from(BITS) / levels) as u8;
-    for level in 1..=levels {
-        let more = bits(level) - bits(level - 1);
-        records.push(Record::Recursive(bits(level), bits(level)));
-        records.extend((0..calls).map(|_| call_of(&mut random, level - 1, more)));
-    }
-    records.push(Record::End);
-    records
-}
-
-/// A key of 4 row and 4 column bits that fills so many bytes: arrays of 200 cells, and a last one that
-/// calls each of them.
-fn narrow(length: usize) -> Vec<Record> {
-    let mut random = Random::of_case(4, 0);
-    let mut records = vec![Record::Head(4, 4)];
-    let arrays = (length - 7) / (3 + 21 * 200 + 11);
-    for _ in 0..arrays {
-        records.push(Record::Sparse(4, 4));
-        records.extend((0..200).map(|_| cell(&mut random, 4)));
-    }
-    records.push(Record::Recursive(4, 4));
-    records.extend((0..arrays).map(|id| call_of(&mut random, id, 0)));
-    records.push(Record::End);
-    records
-}
-
-/// A key of 30 row and 30 column bits and 1,023 arrays of three records: of every three arrays the first
-/// has cells, and the others call it; the last calls the first of all.
-fn many(length: usize) -> Vec<Record> {
-    let mut random = Random::of_case(5, 0);
-    let mut records = vec![Record::Head(BITS, BITS)];
-    for i in 0..1_023 {
-        if i % 3 == 0 {
-            records.push(Record::Sparse(CALLED_BITS, CALLED_BITS));
-            records.extend((0..3).map(|_| cell(&mut random, CALLED_BITS)));
-        } else {
-            let called = if i == 1_022 { 0 } else { i - i % 3 };
-            let bits = BITS - CALLED_BITS;
-            records.push(Record::Recursive(BITS, BITS));
-            records.extend((0..3).map(|_| call_of(&mut random, called, bits)));
-        }
-    }
-    records.push(Record::End);
-    assert!(bytes(&records).len() <= length, "the key is too long");
-    records
-}
-
-/// The key of the request's keysheet input.
-fn small() -> Vec<Record> {
-    let call = Record::Call(Call {
-        id: 0,
-        row: 0,
-        column: 0,
-    });
-    vec![
-        Record::Head(1, 1),
-        Record::Sparse(0, 1),
-        Record::Cell(Cell {
-            row: 0,
-            column: 1,
-            values: [5, 7, 0],
-        }),
-        Record::Recursive(1, 1),
-        call,
-        call,
-        Record::End,
-    ]
-}
-
-/// A cell at a random place of an array of so many row and column bits.
-fn cell(random: &mut Random, bits: u8) -> Record {
-    Record::Cell(Cell {
-        row: number(random, bits),
-        column: number(random, bits),
-        values: [(); 3].map(|()| random.number() % P),
-    })
-}
-
-/// A call of array 0 at a random position.
-fn call(random: &mut Random) -> Record {
-    call_of(random, 0, BITS - CALLED_BITS)
-}
-
-/// A call of an array at a random position of so many row and column bits.
-fn call_of(random: &mut Random, id: usize, bits: u8) -> Record {
-    Record::Call(Call {
-        id: id as u16,
-        row: number(random, bits),
-        column: number(random, bits),
-    })
-}
-
-/// A random number of so many bits.
-fn number(random: &mut Random, bits: u8) -> u32 {
-    (u64::from(random.number()) >> (32 - bits)) as u32
+/// Towers with other calls and bits a level, keys of 7 to 511 bytes, and keys of cells or calls alone
+/// up to 12,607 bytes.
+fn shorter() -> Vec<Sample> {
+    let keys = [
+        ("tower 2 calls", towers::shared_out(40, 2)),
+        ("tower 8 calls", towers::shared_out(40, 8)),
+        ("tower 0 bits", towers::without_bits(40, 4)),
+        ("tower 1 bit", towers::of_single_bits(31, 4)),
+        ("empty", cells(0)),
+        ("1 cell", cells(1)),
+        ("2 cells", cells(2)),
+        ("5 cells", cells(5)),
+        ("11 cells", cells(11)),
+        ("24 cells", cells(24)),
+        ("20 calls", calls(20)),
+        ("60 cells", cells(60)),
+        ("120 cells", cells(120)),
+        ("250 cells", cells(250)),
+        ("600 cells", cells(600)),
+        ("400 calls", calls(400)),
+    ];
+    let mut random = Random::of_case(8, 0);
+    keys.into_iter()
+        .map(|(name, records)| sample(&mut random, name, records))
+        .collect()
 }
 
 /// A sample of these records, with a second key whose first cell has another C.

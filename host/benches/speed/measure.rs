@@ -57,10 +57,15 @@ pub struct Row {
 }
 
 impl Row {
+    /// The archive's time by that of the better Rust pass, where there are two.
+    pub fn best(&self) -> Option<f64> {
+        Some(self.archive / self.rust.min(self.tables?))
+    }
+
     /// The names of the columns.
     pub fn heading() -> String {
         format!(
-            "{:<8} {:<9} {:>6} {:>7} | {:>10} {:>8} {:>6} | {:>9} {:>6} | \
+            "{:<8} {:<13} {:>6} {:>7} | {:>10} {:>8} {:>6} | {:>9} {:>6} | {:>5} | \
              {:>9} {:>6} | {:>9} {:>6} | {}",
             "call",
             "key",
@@ -71,6 +76,7 @@ impl Row {
             "ratio",
             "tables ns",
             "ratio",
+            "best",
             "ns/byte",
             "Rust",
             "ns/factor",
@@ -83,17 +89,18 @@ impl Row {
 impl fmt::Display for Row {
     fn fmt(&self, out: &mut fmt::Formatter<'_>) -> fmt::Result {
         let per = |time: f64, count: Option<usize>| match count {
+            None | Some(0) => "-".into(),
             Some(count) => format!("{:.3}", time / count as f64),
-            None => "-".into(),
         };
         let none = || ["-".into(), "-".into()];
         let [tables, ratio] = self.tables.map_or_else(none, |time| {
             [format!("{time:.0}"), format!("{:.2}", self.archive / time)]
         });
+        let best = self.best().map_or("-".into(), |best| format!("{best:.2}"));
         write!(
             out,
-            "{:<8} {:<9} {:>6} {:>7} | {:>10.0} {:>8.0} {:>6.2} | {tables:>9} {ratio:>6} | \
-             {:>9} {:>6} | {:>9} {:>6} |",
+            "{:<8} {:<13} {:>6} {:>7} | {:>10.0} {:>8.0} {:>6.2} | {tables:>9} {ratio:>6} | \
+             {best:>5} | {:>9} {:>6} | {:>9} {:>6} |",
             self.call,
             self.sample,
             self.bytes,

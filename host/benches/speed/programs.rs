@@ -18,6 +18,9 @@ pub fn run(samples: &[Sample]) {
     let (Ok(keysheet), Ok(empty)) = (env::var("KEYSHEET"), env::var("EMPTY")) else {
         return;
     };
+    if samples.is_empty() {
+        return;
+    }
     println!("program   key        input bytes | keysheet ms  empty ms  difference ms");
     for sample in samples {
         let input = input(sample);

@@ -77,17 +77,29 @@ impl Case {
 /// Runs the cases of a test: as many as `MORGANA_CASES` says, else the usual number. Every outcome
 /// of the list has to come often enough, and no other may come.
 pub fn run(name: &str, usual: u64, outcomes: &[String], one: impl Fn(&mut Random) -> Case) {
-    let seed = variable("MORGANA_SEED").unwrap_or(SEED);
     let cases = variable("MORGANA_CASES").unwrap_or(usual);
+    run_each(name, 0..cases, outcomes, |random, _| one(random));
+}
+
+/// Runs a case for each of these inputs, of whose outcomes the same holds.
+pub fn run_each<T>(
+    name: &str,
+    inputs: impl IntoIterator<Item = T>,
+    outcomes: &[String],
+    one: impl Fn(&mut Random, T) -> Case,
+) {
+    let seed = variable("MORGANA_SEED").unwrap_or(SEED);
+    let mut cases = 0;
     let mut tally: BTreeMap<String, u64> = BTreeMap::new();
-    for number in 0..cases {
-        let case = one(&mut Random::of_case(own_seed(name, seed), number));
+    for input in inputs {
+        let case = one(&mut Random::of_case(own_seed(name, seed), cases), input);
         assert!(
             case.faults.is_empty(),
-            "{name}: seed {seed} case {number}\n{}",
+            "{name}: seed {seed} case {cases}\n{}",
             case.describe()
         );
         *tally.entry(case.outcome).or_default() += 1;
+        cases += 1;
     }
     println!("{name}: seed {seed}, {cases} cases: {tally:?}");
     for outcome in outcomes {

@@ -14,6 +14,12 @@ pub fn point(random: &mut Random, rows: usize, columns: usize) -> Point {
     (coordinates(rows), coordinates(columns))
 }
 
+/// A point whose coordinates are neither 0 nor 1, so that no weight is zero.
+pub fn nonzero_point(random: &mut Random, rows: usize, columns: usize) -> Point {
+    let mut coordinates = |count| (0..count).map(|_| 2 + random.number() % (P - 2)).collect();
+    (coordinates(rows), coordinates(columns))
+}
+
 /// A number below p; of so many numbers, one near 0, 1 or p - 1.
 fn coordinate(random: &mut Random, rarity: usize) -> u32 {
     if !random.chance(rarity) {

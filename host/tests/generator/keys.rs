@@ -1,7 +1,8 @@
 //! Whole keys of all shapes, as lists of records.
 
 use super::random::Random;
-use super::within::{cell, position, within, Bounds};
+use super::within::{cell, of_shapes, position, within, Bounds};
+use crate::independent::key::LONGEST;
 use crate::independent::record::{Call, Record};
 
 /// A whole key, mostly small.
@@ -39,6 +40,21 @@ pub fn wide(random: &mut Random) -> Vec<Record> {
         bytes: 4_000,
     };
     within(random, bounds)
+}
+
+/// A key of narrow and wide arrays, with few or with many records.
+pub fn uneven(random: &mut Random) -> Vec<Record> {
+    let mut shapes = Vec::new();
+    for _ in 0..random.between(0, 8) {
+        shapes.push([(); 2].map(|()| match random.below(2) {
+            0 => random.between(0, 4) as u8,
+            _ => random.between(24, 30) as u8,
+        }));
+    }
+    let most = |axis: usize| shapes.iter().map(|shape: &[u8; 2]| shape[axis]).max();
+    shapes.push([most(0).unwrap_or(30), most(1).unwrap_or(30)]);
+    let records_per_array = random.pick(&[2, 10, 60, 300]);
+    of_shapes(random, &shapes, records_per_array, LONGEST)
 }
 
 /// A key of 1,020 to 1,024 arrays.

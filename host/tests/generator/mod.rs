@@ -3,6 +3,7 @@
 // Each test program uses a part of these modules.
 #![allow(dead_code)]
 
+pub mod counted;
 pub mod damage;
 pub mod inputs;
 pub mod keys;
@@ -10,4 +11,5 @@ pub mod limits;
 pub mod path;
 pub mod random;
 pub mod variants;
+pub mod windows;
 pub mod within;

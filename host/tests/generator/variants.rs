@@ -39,7 +39,7 @@ pub fn second(random: &mut Random, first: &[Record]) -> Vec<Record> {
 }
 
 /// Another key of a given shape.
-fn other(random: &mut Random, (rows, columns): (usize, usize)) -> Vec<Record> {
+pub fn other(random: &mut Random, (rows, columns): (usize, usize)) -> Vec<Record> {
     let bounds = Bounds {
         rows,
         columns,

@@ -17,20 +17,32 @@ pub struct Bounds {
 /// A key within bounds: its last array has all the rows and columns, and its calls fit.
 pub fn within(random: &mut Random, bounds: Bounds) -> Vec<Record> {
     let shapes = shapes(random, bounds);
-    let mut records = vec![Record::Head(bounds.rows as u8, bounds.columns as u8)];
+    of_shapes(random, &shapes, bounds.records_per_array, bounds.bytes)
+}
+
+/// A key of arrays of these shapes, each with up to so many records, and of at most so many bytes. The
+/// last shape is that of the head.
+pub fn of_shapes(
+    random: &mut Random,
+    shapes: &[[u8; 2]],
+    records_per_array: usize,
+    bytes: usize,
+) -> Vec<Record> {
+    let [rows, columns] = shapes[shapes.len() - 1];
+    let mut records = vec![Record::Head(rows, columns)];
     let mut filled = Vec::new();
-    let mut room = bounds.bytes - 4 - 3 * bounds.arrays;
+    let mut room = bytes - 4 - 3 * shapes.len();
     for (array, &shape) in shapes.iter().enumerate() {
         let opening = records.len();
         let count = match random.below(10) {
             0 => 0,
-            1..=2 => bounds.records_per_array,
-            _ => random.between(1, bounds.records_per_array),
+            1..=2 => records_per_array,
+            _ => random.between(1, records_per_array),
         };
         if random.chance(if array == 0 { 10 } else { 3 }) == (array == 0) {
             records.push(Record::Recursive(shape[0], shape[1]));
             let count = count.min(room / 11);
-            room -= 11 * add_calls(random, &mut records, shape, &shapes, &filled, count);
+            room -= 11 * add_calls(random, &mut records, shape, shapes, &filled, count);
         } else {
             records.push(Record::Sparse(shape[0], shape[1]));
             let count = count.min(room / 21);

@@ -9,10 +9,9 @@ use Rattle.refusal.specs.Outcome.{given}
 use Rattle.key.specs.Check.{checkedOutcome, checkedKey}
 use Rattle.evaluate.specs.Inner.{AtPoint}
 use Rattle.evaluate.proofs.Concluded.{arrays-counted, at-most-1024, table-indexed}
-use Rattle.evaluate.proofs.Passed.{last-filled, last-extended}
 use Rattle.compare.specs.Compare.{Answer, Comparison, pairJudged, compared}
 use Rattle.compare.proofs.Comparisons.{first-refused, second-refused, neither-refused}
-use Rattle.compare.proofs.Passes.{passed, first-pass, second-pass, both-passed}
+use Rattle.compare.proofs.Passes.{first-pass, second-pass, both-passed}
 use Rattle.compare.proofs.by_tables.Statement.{statement}
 use Rattle.compare.proofs.by_tables.Tie as tie
 
@@ -58,13 +57,12 @@ first-ready c =
     (second-accepted (counted c)) (admitted-at c)
 
 second-ready : (c : tie.After-enum-told) →
-    let args = start (firstly (counted c)) .args in (between : List ℕ) →
-    between ≡ passed (now (args .first)) (now (args .rows)) (now (args .columns)) (firstly (counted c) .counts .given .0 .0)
-    (now (args .sheet)) →
+    let args = start (firstly (counted c)) .args in
     AtPoint (now (args .second)) (now (args .rows)) (now (args .columns)) ×
-    (3 * counted c .counts2 .given .0 .0 .arrays ≤ length between)
+    (3 * counted c .counts2 .given .0 .0 .arrays ≤ length (now (args .sheet)))
 second-ready c =
-    second-pass _ _ _ _ _ _ _ _ (first-accepted (firstly (counted c))) (second-accepted (counted c)) (admitted-at c)
+    second-pass _ _ _ _ (now (start (firstly (counted c)) .args .sheet)) _ _ _ (first-accepted (firstly (counted c)))
+    (second-accepted (counted c)) (admitted-at c)
 
 index-requires : tie.Need-index-requires
 index-requires c κs = search needs
@@ -129,65 +127,40 @@ enum-told c = search needs
 
 run-requires : tie.Need-run-requires
 run-requires c κs =
-    let told = c .before .before in
-    let accepted = first-accepted (firstly (counted told)) in (
-      table-indexed _ _ accepted _ (firstly (counted told) .before .before .before .before .index .ensures .1),
-      (arrays-counted _ _ accepted, first-ready told),
-    )
-
-last-requires : tie.Need-last-requires
-last-requires c κs =
-    let ran = c .before .before .before in
-    let told = ran .before .before .before in
+    let told = c .before .before .before in
+    let accepted = first-accepted (firstly (counted told)) in
+    let accepted-2 = second-accepted (counted told) in
     let ready = first-ready told in
-    last-filled _ _ _ (ready .0) _ (arrays-counted _ _ (first-accepted (firstly (counted told)))) _ _ (ready .1)
-    (ran .run .ensures)
-
-run-requires-2 : tie.Need-run-requires-2
-run-requires-2 c κs =
-    let ran = c .before .before .before .before .before .before in
-    let told = ran .before .before .before in
-    let accepted = second-accepted (counted told) in (
-      table-indexed _ _ accepted _ (counted told .before .before .before .before .index2 .ensures .1),
-      (arrays-counted _ _ accepted, second-ready told _ (ran .run .ensures)),
+    let ready-2 = second-ready told in (
+      record {
+        indexed = table-indexed _ _ accepted _ (firstly (counted told) .before .before .before .before .index .ensures .1);
+        counted = arrays-counted _ _ accepted;
+        point = ready .0;
+        room = ready .1;
+      },
+      record {
+        indexed = table-indexed _ _ accepted-2 _ (counted told .before .before .before .before .index2 .ensures .1);
+        counted = arrays-counted _ _ accepted-2;
+        point = ready-2 .0;
+        room = ready-2 .1;
+      },
     )
-
-last-requires-2 : tie.Need-last-requires-2
-last-requires-2 c κs =
-    let ran-2 = c .before .before .before in
-    let ran = ran-2 .before .before .before .before .before .before .before in
-    let told = ran .before .before .before in
-    let ready = second-ready told _ (ran .run .ensures) in
-    last-filled _ _ _ (ready .0) _ (arrays-counted _ _ (second-accepted (counted told))) _ _ (ready .1) (ran-2 .run2 .ensures)
-
-likeness-requires : tie.Need-likeness-requires
-likeness-requires c κs = search needs
 
 same-length-6 : tie.Need-same-length-6
 same-length-6 c = search needs
 
 same-length-7 : tie.Need-same-length-7
-same-length-7 c = firstly (counted (c .before .before .before .before .before .before .before .before .before .before .before .before .before .before .before)) .before .before .before .first-starts .given
+same-length-7 c = firstly (counted (c .before .before .before .before .before .before)) .before .before .before .first-starts .given
 
 same-length-8 : tie.Need-same-length-8
-same-length-8 c = counted (c .before .before .before .before .before .before .before .before .before .before .before .before .before .before .before) .before .before .before .second-starts .given
+same-length-8 c = counted (c .before .before .before .before .before .before) .before .before .before .second-starts .given
 
 returns-4 : tie.Need-returns-4
 returns-4 c =
-    let ran-2 = c .before .before .before .before .before in
-    let ran = ran-2 .before .before .before .before .before .before .before in
-    let told = ran .before .before .before in
-    let accepted = first-accepted (firstly (counted told)) in
-    let accepted-2 = second-accepted (counted told) in
-    let ready = first-ready told in
-    let ready-2 = second-ready told _ (ran .run .ensures) in
+    let told = c .before .before .before .before .before .before in
     promised _ _ _ _ _ _ _
-    (both-passed _ _ _ _ _ _ _ _ accepted accepted-2 (admitted-at told) _ _ _ _ _
-    (last-extended _ _ _ (ready .0) _ (arrays-counted _ _ accepted) _ _ (ready .1) (ran .run .ensures) _
-    (ran-2 .before .before .before .last .ensures))
-    (last-extended _ _ _ (ready-2 .0) _ (arrays-counted _ _ accepted-2) _ _ (ready-2 .1) (ran-2 .run2 .ensures) _
-    (c .before .last2 .ensures))
-    (c .likeness .ensures) (ran .run .ensures) (ran-2 .run2 .ensures))
+    (both-passed _ _ _ _ _ _ _ _ (first-accepted (firstly (counted told))) (second-accepted (counted told)) (admitted-at told) _ _
+    (c .before .before .run .ensures .0) (c .before .before .run .ensures .1))
 
 pub by-tables-spec : {M : Type 1} → statement M
 by-tables-spec =
@@ -211,10 +184,6 @@ by-tables-spec =
     returns-3
     enum-told
     run-requires
-    last-requires
-    run-requires-2
-    last-requires-2
-    likeness-requires
     same-length-6
     same-length-7
     same-length-8

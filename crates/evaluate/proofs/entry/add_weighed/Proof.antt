@@ -1,44 +1,86 @@
--- `evaluate::entry::add_weighed` meets its contract: one product for each of the three.
+-- `evaluate::entry::add_weighed` meets its contract: the two weights are multiplied once, and then one product for each of the three.
+use Prim.Native.Nat.{ℕ, _%_, _<_}
+use mathlib.Core.Path.{_≡_, ap, ap₂, _∙_}
+use native.Mathlib.Omega.{arith}
 use borrow.Author.Needs.{needs}
+use Rattle.field.specs.Fp.{p, fp}
+use Rattle.evaluate.specs.Evaluate.{valuesIn}
+use Rattle.evaluate.proofs.Sums.{Product, grown}
 use Rattle.evaluate.proofs.entry.add_weighed.Statement.{statement}
 use Rattle.evaluate.proofs.entry.add_weighed.Tie as tie
 
-mul-requires : tie.Need-mul-requires
-mul-requires c κs = search needs
+folded-requires : tie.Need-folded-requires
+folded-requires c κs = search needs
 
-add-requires : tie.Need-add-requires
-add-requires c κs = search needs
+folded-requires-2 : tie.Need-folded-requires-2
+folded-requires-2 c κs = search needs
 
-mul-requires-2 : tie.Need-mul-requires-2
-mul-requires-2 c κs = search needs
+product-requires : tie.Need-product-requires
+product-requires c κs =
+    let a = c .before .before in (
+      omega (arith, c .before .folded .ensures .1, a .pre .2),
+      omega (arith, c .folded2 .ensures .1, a .pre .3),
+    )
 
-add-requires-2 : tie.Need-add-requires-2
-add-requires-2 c κs = search needs
+-- the weight is below 2^33, and modulo p it is that of the row times that of the column
+small : (c : tie.After-product) → c .product .result < 8589934592
+small c = let a = c .before .before .before in omega (arith, c .product .ensures .1, c .before .before .folded .ensures .1, a .pre .2)
 
-mul-requires-3 : tie.Need-mul-requires-3
-mul-requires-3 c κs = search needs
+is : (c : tie.After-product) →
+    let a = c .before .before .before .args in c .product .result % p ≡ fp .mul (a .row-weight % p) (a .column-weight % p)
+is c =
+    c .product .ensures .0 ∙ ap₂ (λ (x y : ℕ). fp .mul x y) (c .before .before .folded .ensures .0) (c .before .folded2 .ensures .0)
 
-add-requires-3 : tie.Need-add-requires-3
-add-requires-3 c κs = search needs
+times-requires : tie.Need-times-requires
+times-requires c κs = (small c, c .before .before .before .pre .1 .a-below)
+
+add-t7 : tie.Need-add-t7
+add-t7 c =
+    let a = c .before .before .before .before .before in
+    omega (arith, c .before .times .ensures .1, small (c .before .before), a .pre .0 .a-light)
+
+times-requires-2 : tie.Need-times-requires-2
+times-requires-2 c κs = (small (c .before .before), c .before .before .before .before .before .pre .1 .b-below)
+
+add-t9 : tie.Need-add-t9
+add-t9 c =
+    let a = c .before .before .before .before .before .before .before in
+    omega (arith, c .before .times2 .ensures .1, small (c .before .before .before .before), a .pre .0 .b-light)
+
+times-requires-3 : tie.Need-times-requires-3
+times-requires-3 c κs = (small (c .before .before .before .before), c .before .before .before .before .before .before .before .pre .1 .c-below)
+
+add-t11 : tie.Need-add-t11
+add-t11 c =
+    let a = c .before .before .before .before .before .before .before .before .before in
+    omega (arith, c .before .times3 .ensures .1, small (c .before .before .before .before .before .before), a .pre .0 .c-light)
 
 returns : tie.Need-returns
-returns c = rw (
-  c .add3 .ensures,
-  c .before .mul3 .ensures,
-  c .before .before .add2 .ensures,
-  c .before .before .before .mul2 .ensures,
-  c .before .before .before .before .add .ensures,
-  c .before .before .before .before .before .mul .ensures,
-)
+returns c =
+    let weighed = c .before .before .before .before .before .before in
+    let a = weighed .before .before .before in
+    let made : (value x : ℕ) → (x % p ≡ fp .mul (weighed .product .result % p) value) × (x < 17179869184) →
+    Product (fp .mul (a .args .row-weight % p) (a .args .column-weight % p)) value x =
+    λ value x e. (e .0 ∙ ap (λ (w : ℕ). fp .mul w value) (is weighed), e .1) in
+    let times = c .before .before .before .before .before .times .ensures in
+    let times2 = c .before .before .before .times2 .ensures in
+    let times3 = c .before .times3 .ensures in
+    grown (a .args .sums) (valuesIn (a .args .values)) _ _ _ _
+    (made _ _ (times .0, omega (arith, times .1, small weighed)))
+    (made _ _ (times2 .0, omega (arith, times2 .1, small weighed)))
+    (made _ _ (times3 .0, omega (arith, times3 .1, small weighed)))
 
 pub add-weighed-spec : {M : Type 1} → statement M
 add-weighed-spec =
     tie.close
     (tie.spec
-    mul-requires
-    add-requires
-    mul-requires-2
-    add-requires-2
-    mul-requires-3
-    add-requires-3
+    folded-requires
+    folded-requires-2
+    product-requires
+    times-requires
+    add-t7
+    times-requires-2
+    add-t9
+    times-requires-3
+    add-t11
     returns)

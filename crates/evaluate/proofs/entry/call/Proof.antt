@@ -1,90 +1,78 @@
-use mathlib.Core.Path.{ap, ap₂, _∙_}
-use native.Mathlib.Omega.{arith}
+-- `evaluate::entry::call` meets its contract: its two factors are those that the prepared sides have.
+use mathlib.Core.Path.{ap, ap₂, subst, _∙_}
 use denote.Ref.{now}
 use borrow.Author.Needs.{needs}
-use lib.Seq.{slice}
 use Rattle.field.specs.Fp.{fp}
 use Rattle.records.specs.declared.Shape.{Shape}
-use Rattle.multilinear.specs.Weight.{weight}
-use Rattle.evaluate.specs.Evaluate.{valuesIn}
-use Rattle.evaluate.specs.Inner.{addedTo}
-use Rattle.evaluate.proofs.Cutting.{weight-below}
-use Rattle.evaluate.proofs.Weighing.{mul-below}
+use Rattle.arrays.specs.Arrays.{Values}
+use Rattle.weights.specs.Side.{prepared}
+use Rattle.evaluate.specs.Inner.{reducedIn, Grown, addedTo}
 use Rattle.evaluate.proofs.entry.call.Statement.{statement}
 use Rattle.evaluate.proofs.entry.call.Tie as tie
 
--- the start, from the place where the call's id is known
-abbrev begun : tie.After-struct-known → tie.Start
-begun c = c .before .before .before .before .before .before .before .before
-
--- `evaluate::entry::call` meets its contract: its two factors are multiplied once for the three values.
+-- the start, from the place where the called array's shape is known
+abbrev begun : tie.After-shape → tie.Start
+begun c = c .before .before .before .before .before .before .before
 
 cast-id : tie.Need-cast-id
 cast-id c = search needs
 
 shape-requires : tie.Need-shape-requires
-shape-requires c κs = let a = begun c in (a .pre .0, omega (arith, a .pre .1 .0, a .pre .1 .1 .0 .earlier))
+shape-requires c κs = search needs
 
 values-requires : tie.Need-values-requires
-values-requires c κs =
-    let a = begun (c .before) in (
-      omega (arith, a .pre .1 .1 .0 .earlier, a .pre .1 .1 .1 .1 .1 .1 .1 .0 .room),
-      a .pre .1 .1 .1 .1 .1 .1 .1 .0 .below (a .args .c .id) (a .pre .1 .1 .0 .earlier),
-    )
+values-requires c κs = search needs
 
-cast-weigh : tie.Need-cast-weigh
-cast-weigh c = search needs
+cast-factor : tie.Need-cast-factor
+cast-factor c = search needs
 
-cast-weigh-2 : tie.Need-cast-weigh-2
-cast-weigh-2 c = search needs
+cast-factor-2 : tie.Need-cast-factor-2
+cast-factor-2 c = search needs
 
-weigh-requires : tie.Need-weigh-requires
-weigh-requires c κs =
-    let a = begun (c .before .before .before .before) in
-    let called = c .before .before .before .shape .ensures in
-    let side = a .pre .1 .1 .1 in
-    ((rw called (a .pre .1 .1 .0 .rows-fit), side .0 .enough, side .0 .below), side .1 .1 .0)
+factor-requires : tie.Need-factor-requires
+factor-requires c κs =
+    let shaped = c .before .before .before in
+    let a = begun shaped in
+    (rw (shaped .shape .ensures) (a .pre .1 .0 .rows-fit), a .pre .1 .1 .0)
 
-cast-weigh-3 : tie.Need-cast-weigh-3
-cast-weigh-3 c = search needs
+cast-factor-3 : tie.Need-cast-factor-3
+cast-factor-3 c = search needs
 
-cast-weigh-4 : tie.Need-cast-weigh-4
-cast-weigh-4 c = search needs
+cast-factor-4 : tie.Need-cast-factor-4
+cast-factor-4 c = search needs
 
-weigh-requires-2 : tie.Need-weigh-requires-2
-weigh-requires-2 c κs =
-    let a = begun (c .before .before .before .before .before .before .before) in
-    let called = c .before .before .before .before .before .before .shape .ensures in
-    let side = a .pre .1 .1 .1 .1 in
-    ((rw called (a .pre .1 .1 .0 .columns-fit), side .0 .enough, side .0 .below), side .1 .1 .0)
-
-mul-requires : tie.Need-mul-requires
-mul-requires c κs = (rw (c .before .before .before .weigh .ensures) (weight-below _ _), rw (c .weigh2 .ensures) (weight-below _ _))
+factor-requires-2 : tie.Need-factor-requires-2
+factor-requires-2 c κs =
+    let shaped = c .before .before .before .before .before .before in
+    let a = begun shaped in
+    (rw (shaped .shape .ensures) (a .pre .1 .0 .columns-fit), a .pre .1 .1 .1 .0)
 
 add-weighed-requires : tie.Need-add-weighed-requires
 add-weighed-requires c κs =
-    let a = begun (c .before .before .before .before .before .before .before .before .before) in
-    let filled = a .pre .1 .1 .1 .1 .1 .1 .1 .0 in (
-      a .pre .1 .1 .1 .1 .1 .1 .1 .1,
-      rw (c .before .before .before .before .before .before .before .values .ensures) (filled .below (a .args .c .id) (a .pre .1 .1 .0 .earlier)),
-      rw (c .mul .ensures) (mul-below _ _),
+    let valued = c .before .before .before .before .before .before in
+    let a = begun (valued .before) in (
+      a .pre .1 .1 .1 .1,
+      rw (valued .values .ensures) (a .pre .1 .0 .below),
+      c .before .before .before .factor .ensures .small,
+      c .factor2 .ensures .small,
     )
 
 returns : tie.Need-returns
 returns c =
-    let weighed = c .before .before in
-    let shaped = weighed .before .before .before .before .before .before .before in
-    let a = begun (shaped .before) in
+    let weighed = c .before in
+    let valued = weighed .before .before .before .before .before .before in
+    let shaped = valued .before in
+    let a = begun shaped in
     let called = shaped .shape .ensures in
-    c .add-weighed .ensures
-    ∙ ap₂ (addedTo (valuesIn (a .args .sum))) (weighed .before .before .before .before .before .before .values .ensures)
-    (c .before .mul .ensures
-    ∙ ap₂ (fp .mul)
-    (weighed .before .before .before .weigh .ensures
-    ∙ ap (λ (s : Shape). weight fp (a .args .c .down) (slice (s .rows) (a .args .shape .rows) (now (a .args .rows)))) called)
-    (weighed .weigh2 .ensures
-    ∙ ap (λ (s : Shape). weight fp (a .args .c .right) (slice (s .columns) (a .args .shape .columns) (now (a .args .columns))))
-    called))
+    subst (λ (v : Values). Grown (a .args .sums) v (c .add-weighed .result))
+    (ap₂ (addedTo (reducedIn (a .args .sums))) (valued .values .ensures)
+    (ap₂ (fp .mul)
+    (weighed .before .before .before .factor .ensures .is
+    ∙ ap (λ (s : Shape). prepared (now (a .args .rowwise)) .factor (a .args .shape .rows) (s .rows) (a .args .c .down)) called)
+    (weighed .factor2 .ensures .is
+    ∙ ap (λ (s : Shape). prepared (now (a .args .columnwise)) .factor (a .args .shape .columns) (s .columns) (a .args .c .right))
+    called)))
+    (c .add-weighed .ensures)
 
 pub call-spec : {M : Type 1} → statement M
 call-spec =
@@ -93,12 +81,11 @@ call-spec =
     cast-id
     shape-requires
     values-requires
-    cast-weigh
-    cast-weigh-2
-    weigh-requires
-    cast-weigh-3
-    cast-weigh-4
-    weigh-requires-2
-    mul-requires
+    cast-factor
+    cast-factor-2
+    factor-requires
+    cast-factor-3
+    cast-factor-4
+    factor-requires-2
     add-weighed-requires
     returns)

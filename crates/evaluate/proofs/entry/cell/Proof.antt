@@ -1,7 +1,15 @@
--- `evaluate::entry::cell` meets its contract: its two weights are multiplied once for the three values.
+-- `evaluate::entry::cell` meets its contract: its two weights are those that the prepared sides have.
+use Prim.Native.Nat.{ℕ, _-_}
+use mathlib.Core.Path.{_≡_, ap, ap₂, subst, _∙_}
+use native.Mathlib.Omega.{arith}
+use denote.Ref.{now}
 use borrow.Author.Needs.{needs}
-use Rattle.evaluate.proofs.Cutting.{weight-below}
-use Rattle.evaluate.proofs.Weighing.{mul-below}
+use Rattle.field.specs.Fp.{fp}
+use Rattle.arrays.specs.Arrays.{Values}
+use Rattle.multilinear.specs.Eq.{bitwise}
+use Rattle.weights.specs.Side.{pairs}
+use Rattle.evaluate.specs.Inner.{reducedIn, Grown, addedTo}
+use Rattle.key.specs.KeyArrays.{cellIn}
 use Rattle.evaluate.proofs.entry.cell.Statement.{statement}
 use Rattle.evaluate.proofs.entry.cell.Tie as tie
 
@@ -26,30 +34,33 @@ cast-weigh-2 c = search needs
 weigh-requires-2 : tie.Need-weigh-requires-2
 weigh-requires-2 c κs = search needs
 
-mul-requires : tie.Need-mul-requires
-mul-requires c κs = (rw (c .before .before .weigh .ensures) (weight-below _ _), rw (c .weigh2 .ensures) (weight-below _ _))
-
 add-weighed-requires : tie.Need-add-weighed-requires
 add-weighed-requires c κs =
-    let a = c .before .before .before .before .before .before .before .before .before .before .before .before in
-    let new = c .before .before .before .before .before in (
-      a .pre .1 .1 .1 .1 .1,
+    let a = c .before .before .before .before .before .before .before .before .before in
+    let new = c .before .before .before .before in (
+      a .pre .1 .1 .1,
       rw (new .new3 .ensures, new .before .new2 .ensures, new .before .before .new .ensures)
           (record { a-below = a .pre .0 .a-below; b-below = a .pre .0 .b-below; c-below = a .pre .0 .c-below }),
-      rw (c .mul .ensures) (mul-below _ _),
+      c .before .before .weigh .ensures .small,
+      c .weigh2 .ensures .small,
     )
 
 returns : tie.Need-returns
 returns c =
-    rw (
-      c .add-weighed .ensures,
-      c .before .mul .ensures,
-      c .before .before .weigh2 .ensures,
-      c .before .before .before .before .weigh .ensures,
-      c .before .before .before .before .before .before .new3 .ensures,
-      c .before .before .before .before .before .before .before .new2 .ensures,
-      c .before .before .before .before .before .before .before .before .new .ensures,
-    )
+    let weighed = c .before in
+    let new = weighed .before .before .before .before in
+    let a = new .before .before .before .before .before in
+    subst (λ (v : Values). Grown (a .args .sums) v (c .add-weighed .result))
+    (rw (new .new3 .ensures, new .before .new2 .ensures, new .before .before .new .ensures)
+    (ap (addedTo (reducedIn (a .args .sums)) (cellIn (a .args .c) .values))
+    (ap₂ (fp .mul)
+    (weighed .before .before .weigh .ensures .is
+    ∙ ap (λ (n : ℕ). bitwise fp (pairs (now (a .args .rowwise))) n 0 (a .args .c .row))
+    (let rows : a .args .shape .rows - 0 ≡ a .args .shape .rows = omega arith in rows))
+    (weighed .weigh2 .ensures .is
+    ∙ ap (λ (n : ℕ). bitwise fp (pairs (now (a .args .columnwise))) n 0 (a .args .c .column))
+    (let columns : a .args .shape .columns - 0 ≡ a .args .shape .columns = omega arith in columns)))))
+    (c .add-weighed .ensures)
 
 pub cell-spec : {M : Type 1} → statement M
 cell-spec =
@@ -62,6 +73,5 @@ cell-spec =
     weigh-requires
     cast-weigh-2
     weigh-requires-2
-    mul-requires
     add-weighed-requires
     returns)

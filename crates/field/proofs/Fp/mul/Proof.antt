@@ -5,17 +5,17 @@ use Rattle.field.proofs.Remainders.{product-at-most}
 use Rattle.field.proofs.Fp.mul.Statement.{statement}
 use Rattle.field.proofs.Fp.mul.Tie as tie
 
-cast-full : tie.Need-cast-full
-cast-full c = search needs
+cast-folded : tie.Need-cast-folded
+cast-folded c = search needs
 
-cast-full-2 : tie.Need-cast-full-2
-cast-full-2 c = search needs
+cast-folded-2 : tie.Need-cast-folded-2
+cast-folded-2 c = search needs
 
-mul-full : tie.Need-mul-full
-mul-full c = omega (arith, product-at-most (c .before .before .pre))
+mul-folded : tie.Need-mul-folded
+mul-folded c = omega (arith, product-at-most (c .before .before .pre))
 
-add-folded : tie.Need-add-folded
-add-folded c = omega (arith, product-at-most (c .before .before .pre))
+folded-requires : tie.Need-folded-requires
+folded-requires c κs = search needs
 
 cast-if1 : tie.Need-cast-if1
 cast-if1 c = search needs
@@ -30,22 +30,22 @@ sub-t11 : tie.Need-sub-t11
 sub-t11 c = search needs
 
 cast-t12 : tie.Need-cast-t12
-cast-t12 c = omega (arith, product-at-most (c .before .before .before .pre))
+cast-t12 c = omega (arith, c .before .folded .ensures, product-at-most (c .before .before .before .before .pre))
 
 returns : tie.Need-returns
 returns c = search needs
 
 returns-2 : tie.Need-returns-2
-returns-2 c = omega (arith, product-at-most (c .before .before .before .pre))
+returns-2 c = omega (arith, c .before .folded .ensures, product-at-most (c .before .before .before .before .pre))
 
 pub mul-spec : {M : Type 1} → statement M
 mul-spec =
     tie.close
     (tie.spec
-    cast-full
-    cast-full-2
-    mul-full
-    add-folded
+    cast-folded
+    cast-folded-2
+    mul-folded
+    folded-requires
     cast-if1
     cast-t9
     cast-t10

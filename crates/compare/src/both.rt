@@ -1,0 +1,133 @@
+// The passes over two keys at one point, whose sides are prepared once for both.
+use crate::Compared;
+use evaluate::Values;
+use evaluate::pass;
+use evaluate::work;
+use records::Shape;
+use weights::table;
+ghost use mathlib.Core.Path.{_≡_};
+ghost use lib.ListN.{length};
+ghost use Rattle.weights.specs.Side.{Ready};
+ghost use Rattle.evaluate.specs.Evaluate.{valuesIn, lastValues};
+ghost use Rattle.compare.specs.Compare.{comparedAnswer, likeness};
+ghost use Rattle.compare.specs.Inner.{Evaluable, writtenBy};
+
+// Whether the last arrays' three numbers are equal at a point. The sheet ends with those of the second key's arrays over those of the
+// first's. Weights of limbs are prepared where they are estimated to save more, in both keys together, than they cost (`work`). Inner: both keys can be
+// evaluated at the point on the sheet.
+pub(crate) fn run(
+    first: &[u8],
+    first_starts: &[u16],
+    first_arrays: usize,
+    second: &[u8],
+    second_starts: &[u16],
+    second_arrays: usize,
+    rows: &[u32],
+    columns: &[u32],
+    sheet: &mut [u32],
+) -> Compared
+    requires { ⌜ Evaluable (now first) (now «first_starts») «first_arrays» (now rows) (now columns) (length (now sheet)) ⌝ }
+    requires { ⌜ Evaluable (now second) (now «second_starts») «second_arrays» (now rows) (now columns) (length (now sheet)) ⌝ }
+    ensures answer { λ r. ⌜ comparedAnswer r ≡ likeness (lastValues (now (first .entry)) (now (rows .entry)) (now (columns .entry))) (lastValues (now (second .entry)) (now (rows .entry)) (now (columns .entry))) ⌝ }
+    ensures sheet { λ _. ⌜ now (sheet .exit) ≡ writtenBy (now (second .entry)) (now (rows .entry)) (now (columns .entry)) «second_arrays» (writtenBy (now (first .entry)) (now (rows .entry)) (now (columns .entry)) «first_arrays» (now (sheet .entry))) ⌝ }
+{
+    let first_saved = work::saved(first, first_starts, first_arrays);
+    let second_saved = work::saved(second, second_starts, second_arrays);
+    if work::limbs_pay(first_saved + second_saved, rows.len() + columns.len()) {
+        let mut rowwise = [0u32; 448];
+        let mut columnwise = [0u32; 448];
+        return by_sides(
+            first,
+            first_starts,
+            first_arrays,
+            second,
+            second_starts,
+            second_arrays,
+            rows,
+            columns,
+            &mut rowwise,
+            &mut columnwise,
+            sheet,
+        );
+    }
+    let mut rowwise = [0u32; 64];
+    let mut columnwise = [0u32; 64];
+    by_sides(
+        first,
+        first_starts,
+        first_arrays,
+        second,
+        second_starts,
+        second_arrays,
+        rows,
+        columns,
+        &mut rowwise,
+        &mut columnwise,
+        sheet,
+    )
+}
+
+// The same, with tables to be filled for the two sides. Inner: they have places for them.
+fn by_sides(
+    first: &[u8],
+    first_starts: &[u16],
+    first_arrays: usize,
+    second: &[u8],
+    second_starts: &[u16],
+    second_arrays: usize,
+    rows: &[u32],
+    columns: &[u32],
+    rowwise: &mut [u32],
+    columnwise: &mut [u32],
+    sheet: &mut [u32],
+) -> Compared
+    requires { ⌜ Evaluable (now first) (now «first_starts») «first_arrays» (now rows) (now columns) (length (now sheet)) ⌝ }
+    requires { ⌜ Evaluable (now second) (now «second_starts») «second_arrays» (now rows) (now columns) (length (now sheet)) ⌝ }
+    requires { ⌜ Ready (now rowwise) × Ready (now columnwise) ⌝ }
+    ensures answer { λ r. ⌜ comparedAnswer r ≡ likeness (lastValues (now (first .entry)) (now (rows .entry)) (now (columns .entry))) (lastValues (now (second .entry)) (now (rows .entry)) (now (columns .entry))) ⌝ }
+    ensures sheet { λ _. ⌜ now (sheet .exit) ≡ writtenBy (now (second .entry)) (now (rows .entry)) (now (columns .entry)) «second_arrays» (writtenBy (now (first .entry)) (now (rows .entry)) (now (columns .entry)) «first_arrays» (now (sheet .entry))) ⌝ }
+{
+    let most = Shape {
+        rows: rows.len() as u8,
+        columns: columns.len() as u8,
+    };
+    table::prepare(rows, rowwise);
+    table::prepare(columns, columnwise);
+    pass::over(
+        first,
+        first_starts,
+        first_arrays,
+        most,
+        rowwise,
+        columnwise,
+        sheet,
+    );
+    let one = pass::last(sheet, first_arrays);
+    pass::over(
+        second,
+        second_starts,
+        second_arrays,
+        most,
+        rowwise,
+        columnwise,
+        sheet,
+    );
+    let other = pass::last(sheet, second_arrays);
+    likeness(one, other)
+}
+
+// Whether all three numbers are equal.
+fn likeness(one: Values, other: Values) -> Compared
+    ensures { λ r. ⌜ comparedAnswer r ≡ likeness (valuesIn one) (valuesIn other) ⌝ }
+{
+    if one.a.value() != other.a.value() {
+        return Compared::Different;
+    }
+    if one.b.value() != other.b.value() {
+        return Compared::Different;
+    }
+    if one.c.value() != other.c.value() {
+        return Compared::Different;
+    }
+    Compared::Same
+}

@@ -1,0 +1,24 @@
+// eq, called on a case's two lists.
+use crate::input;
+use crate::print;
+ghost use mathlib.Core.Path.{_≡_};
+ghost use Prim.Native.Nat.{_≤_};
+ghost use lib.ListN.{length};
+
+// Prints eq of the next two lists of so many numbers. Inner: they are at most 30.
+pub(crate) fn eq(count: usize)
+    requires { ⌜ count ≤ 30 ⌝ }
+{
+    let mut x = [0u32; 30];
+    let mut y = [0u32; 30];
+    of_lists(&mut x[0..count], &mut y[0..count]);
+}
+
+// Reads the lists and prints their eq. Inner: they have the same length.
+fn of_lists(x: &mut [u32], y: &mut [u32])
+    requires { ⌜ length (now x) ≡ length (now y) ⌝ }
+{
+    input::fill(x);
+    input::fill(y);
+    print::element(weights::eq(x, y));
+}

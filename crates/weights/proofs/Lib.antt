@@ -1,0 +1,15 @@
+pub mod Elements
+pub mod Multiplying
+pub mod Weighing
+pub mod Factors
+pub mod Sizes
+pub mod LimbWeights
+pub mod Reach
+pub mod Stores
+pub mod Pairs
+pub mod Widening
+pub mod Growing
+pub mod Blocks
+pub mod Tables
+pub mod AsCoordinates
+pub mod Zeros
