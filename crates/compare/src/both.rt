@@ -34,8 +34,8 @@ pub(crate) fn run(
     let first_saved = work::saved(first, first_starts, first_arrays);
     let second_saved = work::saved(second, second_starts, second_arrays);
     if work::limbs_pay(first_saved + second_saved, rows.len() + columns.len()) {
-        let mut rowwise = [0u32; 448];
-        let mut columnwise = [0u32; 448];
+        let mut rowwise = [0u32; table::LIMB_PLACES];
+        let mut columnwise = [0u32; table::LIMB_PLACES];
         return by_sides(
             first,
             first_starts,
@@ -50,8 +50,8 @@ pub(crate) fn run(
             sheet,
         );
     }
-    let mut rowwise = [0u32; 64];
-    let mut columnwise = [0u32; 64];
+    let mut rowwise = [0u32; table::PLACES];
+    let mut columnwise = [0u32; table::PLACES];
     by_sides(
         first,
         first_starts,

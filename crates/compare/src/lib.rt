@@ -42,10 +42,10 @@ pub fn compare(
     ensures sheet { λ _. ⌜ now (sheet .exit) ≡ compared (now (first .entry)) (now (second .entry)) (now (rows .entry)) (now (columns .entry)) (now (sheet .entry)) .sheet ⌝ }
     ensures agreement { λ _. ⌜ Agreement (now (first .entry)) (now (second .entry)) ⌝ }
 {
-    if first.len() < 192 {
-        if second.len() < 192 {
-            let mut first_short = [0u16; 64];
-            let mut second_short = [0u16; 64];
+    if first.len() < key::SHORT {
+        if second.len() < key::SHORT {
+            let mut first_short = [0u16; key::SHORT_ARRAYS];
+            let mut second_short = [0u16; key::SHORT_ARRAYS];
             return by_tables(
                 first,
                 second,
@@ -57,8 +57,8 @@ pub fn compare(
             );
         }
     }
-    let mut first_starts = [0u16; 1024];
-    let mut second_starts = [0u16; 1024];
+    let mut first_starts = [0u16; key::MOST_ARRAYS];
+    let mut second_starts = [0u16; key::MOST_ARRAYS];
     by_tables(
         first,
         second,

@@ -7,8 +7,8 @@ use records::Shape;
 use records::read;
 use weights::side;
 ghost use mathlib.Core.Path.{_≡_};
-ghost use mathlib.Core.List.{[], _∷_, _++_};
-ghost use Prim.Native.Nat.{_+_, _-_, _<_};
+ghost use mathlib.Core.List.{List, [], _∷_, _++_};
+ghost use Prim.Native.Nat.{ℕ, _+_, _-_, _<_};
 ghost use lib.ListN.{length, getD};
 ghost use Rattle.arrays.specs.Arrays.{arrayAt};
 ghost use Rattle.weights.specs.Side.{prepared};
@@ -79,13 +79,13 @@ fn total(
 {
     let opening = starts[i] as usize;
     if key[opening] == 2 {
-        cells(key, starts, arrays, i, reached, rowwise, columnwise, sheet)
+        cells(key, starts, arrays, i, reached, rowwise, columnwise)
     } else {
         calls(key, starts, arrays, i, reached, rowwise, columnwise, sheet)
     }
 }
 
-// The same of a sparse array: its cells, added up one by one. Inner: as for `total`, whatever stands on the sheet.
+// The same of a sparse array, whatever stands on a sheet: its cells, added up one by one. Inner: as for `total`.
 fn cells(
     key: &[u8],
     starts: &[u16],
@@ -94,14 +94,13 @@ fn cells(
     reached: Shape,
     rowwise: &[u32],
     columnwise: &[u32],
-    sheet: &[u32],
 ) -> Sums
     requires { ⌜ Indexed (now key) (now starts) ⌝ }
     requires { ⌜ arrays ≡ length (keyArrays (now key)) ⌝ }
     requires { ⌜ i < arrays ⌝ }
     requires { ⌜ Sparse (arrayAt (keyArrays (now key)) i .entries) ⌝ }
     requires { ⌜ ReachedIn (keyArrays (now key)) i reached (now rowwise) (now columnwise) ⌝ }
-    ensures { λ r. ⌜ reducedIn r ≡ nextValues (keyArrays (now (key .entry))) (prepared (now (rowwise .entry))) (prepared (now (columnwise .entry))) (now (sheet .entry)) i ⌝ }
+    ensures { λ r. ⌜ ((sheet : List ℕ) → reducedIn r ≡ nextValues (keyArrays (now (key .entry))) (prepared (now (rowwise .entry))) (prepared (now (columnwise .entry))) sheet i) ⌝ }
 {
     let to = behind(key, starts, arrays, i);
     let mut sums = Sums { a: 0, b: 0, c: 0 };

@@ -90,17 +90,25 @@ fn sheet_of(counts: Counts, places: usize) -> Checked
     Checked::Accepted(counts)
 }
 
-// The index of the first number that is p or more, or how many there are.
+// The index of the first number that is p or more, or how many there are. Two are tried in a turn (docs/PERFORMANCE.md).
 fn first_over(numbers: &[u32]) -> usize
     ensures { λ r. ⌜ r ≡ firstOver (now (numbers .entry)) ⌝ }
 {
     let count = numbers.len();
     let mut i = 0;
-    while i < count {
+    while i + 1 < count {
         if Fp::P <= numbers[i] {
             return i;
         }
-        i += 1;
+        if Fp::P <= numbers[i + 1] {
+            return i + 1;
+        }
+        i += 2;
     }
-    i
+    if i < count {
+        if Fp::P <= numbers[i] {
+            return i;
+        }
+    }
+    count
 }

@@ -37,15 +37,18 @@ pub fn evaluate(key: &[u8], rows: &[u32], columns: &[u32], sheet: &mut [u32]) ->
     ensures answer { λ r. ⌜ evaluatedOutcome r ≡ evaluated (now (key .entry)) (now (rows .entry)) (now (columns .entry)) (now (sheet .entry)) .answer ⌝ }
     ensures sheet { λ _. ⌜ now (sheet .exit) ≡ evaluated (now (key .entry)) (now (rows .entry)) (now (columns .entry)) (now (sheet .entry)) .sheet ⌝ }
 {
-    if key.len() < 192 {
-        let mut short = [0u16; 64];
+    if key.len() < key::SHORT {
+        let mut short = [0u16; key::SHORT_ARRAYS];
         return at_point(key, rows, columns, sheet, &mut short);
     }
-    let mut starts = [0u16; 1024];
+    let mut starts = [0u16; key::MOST_ARRAYS];
     at_point(key, rows, columns, sheet, &mut starts)
 }
 
 // The same, with a table for the offsets of the key's arrays. Inner: it has a place for each array that a key of this length may have.
+//
+// What is lent is borrowed anew where it is handed on: so this function takes it in registers, which counts on small keys
+// (docs/PERFORMANCE.md).
 fn at_point(
     key: &[u8],
     rows: &[u32],
@@ -57,13 +60,13 @@ fn at_point(
     ensures answer { λ r. ⌜ evaluatedOutcome r ≡ evaluated (now (key .entry)) (now (rows .entry)) (now (columns .entry)) (now (sheet .entry)) .answer ⌝ }
     ensures sheet { λ _. ⌜ now (sheet .exit) ≡ evaluated (now (key .entry)) (now (rows .entry)) (now (columns .entry)) (now (sheet .entry)) .sheet ⌝ }
 {
-    let checked = key::index(key, starts);
-    let pointed = judge::point(checked, rows, columns);
+    let checked = key::index(&*key, starts);
+    let pointed = judge::point(checked, &*rows, &*columns);
     let judged = judge::sheet(pointed, sheet.len());
     match judged {
         Checked::Refused(refusal) => Evaluated::Refused(refusal),
         Checked::Accepted(counts) => {
-            pass::run(key, starts, counts.arrays, rows, columns, sheet);
+            pass::run(&*key, starts, counts.arrays, &*rows, &*columns, sheet);
             Evaluated::Values(pass::last(sheet, counts.arrays))
         }
     }
@@ -75,11 +78,11 @@ pub fn cell(key: &[u8], row: u32, column: u32, sheet: &mut [u32]) -> Evaluated
     ensures answer { λ r. ⌜ evaluatedOutcome r ≡ celled (now (key .entry)) row column (now (sheet .entry)) .answer ⌝ }
     ensures sheet { λ _. ⌜ now (sheet .exit) ≡ celled (now (key .entry)) row column (now (sheet .entry)) .sheet ⌝ }
 {
-    if key.len() < 192 {
-        let mut short = [0u16; 64];
+    if key.len() < key::SHORT {
+        let mut short = [0u16; key::SHORT_ARRAYS];
         return at_place(key, row, column, sheet, &mut short);
     }
-    let mut starts = [0u16; 1024];
+    let mut starts = [0u16; key::MOST_ARRAYS];
     at_place(key, row, column, sheet, &mut starts)
 }
 
@@ -89,7 +92,7 @@ fn at_place(key: &[u8], row: u32, column: u32, sheet: &mut [u32], starts: &mut [
     ensures answer { λ r. ⌜ evaluatedOutcome r ≡ celled (now (key .entry)) row column (now (sheet .entry)) .answer ⌝ }
     ensures sheet { λ _. ⌜ now (sheet .exit) ≡ celled (now (key .entry)) row column (now (sheet .entry)) .sheet ⌝ }
 {
-    let checked = key::index(key, starts);
+    let checked = key::index(&*key, starts);
     let placed = judge::place(checked, row, column);
     let judged = judge::sheet(placed, sheet.len());
     match judged {
@@ -99,7 +102,7 @@ fn at_place(key: &[u8], row: u32, column: u32, sheet: &mut [u32], starts: &mut [
             let mut columns = [0u32; 30];
             point::bits(row, &mut rows);
             point::bits(column, &mut columns);
-            pass::run(key, starts, counts.arrays, &rows, &columns, sheet);
+            pass::run(&*key, starts, counts.arrays, &rows, &columns, sheet);
             Evaluated::Values(pass::last(sheet, counts.arrays))
         }
     }

@@ -15,10 +15,10 @@ ghost use Rattle.evaluate.specs.Inner.{Indexed, AtPoint, Sides, Filled, 
 ghost use Rattle.evaluate.specs.Sheet.{wordsOf, laid};
 
 // Writes every array's values on the sheet: the extensions of their dense matrices. The sides of the point are prepared with weights of
-// limbs where these are estimated to save more than they cost (`work`). Inner: the key is accepted and indexed, the point is one for it, and the sheet has
-// places for all.
+// limbs where these are estimated to save more than they cost (`work`). Inner: the key is accepted and indexed, the point is one for it,
+// and the sheet has places for all.
 //
-// The table of offsets is borrowed anew for the pass, which is faster on small keys (docs/PERFORMANCE.md).
+// What is lent is borrowed anew where it is handed on, as in `at_point`.
 pub fn run(
     key: &[u8],
     starts: &[u16],
@@ -33,29 +33,29 @@ pub fn run(
     requires { ⌜ 3 * arrays ≤ length (now sheet) ⌝ }
     ensures { λ _. ⌜ now (sheet .exit) ≡ laid 0 (λ i. wordsOf (valuesAt (keyArrays (now (key .entry))) (now (rows .entry)) (now (columns .entry)) i)) arrays (now (sheet .entry)) ⌝ }
 {
-    let saved = work::saved(key, starts, arrays);
+    let saved = work::saved(&*key, &*starts, arrays);
     if work::limbs_pay(saved, rows.len() + columns.len()) {
-        let mut rowwise = [0u32; 448];
-        let mut columnwise = [0u32; 448];
+        let mut rowwise = [0u32; table::LIMB_PLACES];
+        let mut columnwise = [0u32; table::LIMB_PLACES];
         return by_sides(
-            key,
+            &*key,
             &*starts,
             arrays,
-            rows,
-            columns,
+            &*rows,
+            &*columns,
             &mut rowwise,
             &mut columnwise,
             sheet,
         );
     }
-    let mut rowwise = [0u32; 64];
-    let mut columnwise = [0u32; 64];
+    let mut rowwise = [0u32; table::PLACES];
+    let mut columnwise = [0u32; table::PLACES];
     by_sides(
-        key,
+        &*key,
         &*starts,
         arrays,
-        rows,
-        columns,
+        &*rows,
+        &*columns,
         &mut rowwise,
         &mut columnwise,
         sheet,

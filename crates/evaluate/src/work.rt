@@ -8,16 +8,16 @@ ghost use lib.ListN.{length};
 ghost use Rattle.key.specs.KeyArrays.{keyArrays};
 ghost use Rattle.evaluate.specs.Inner.{Indexed};
 
-// Whether weights of limbs, for so many coordinates, are worth what they cost where they save so many products. Inner: there are at most
-// 60 coordinates.
+// Whether weights of limbs, for so many coordinates, are worth what they cost, where they save so many products: they cost as much as
+// about twelve for each coordinate (docs/PERFORMANCE.md). Inner: there are at most 60 coordinates.
 pub fn limbs_pay(saved: usize, coordinates: usize) -> bool
     requires { ⌜ coordinates ≤ 60 ⌝ }
-    ensures { λ r. ⌜ r ≡ ltb (7 * coordinates) saved ⌝ }
+    ensures { λ r. ⌜ r ≡ ltb (12 * coordinates) saved ⌝ }
 {
-    7 * coordinates < saved
+    12 * coordinates < saved
 }
 
-// About how many products weights of limbs save in a key; 0 for a key below 88 bytes, where limbs cannot pay for it alone. At most
+// About how many products weights of limbs save in a key; 0 for a key below 88 bytes, which has at most seven entries: too few. At most
 // eight arrays are looked at, each of which stands for as many, and all where those have less than half of the key's bytes. Inner: the
 // key is accepted and indexed, and has so many arrays.
 pub fn saved(key: &[u8], starts: &[u16], arrays: usize) -> usize

@@ -86,12 +86,7 @@ impl Fp {
         requires { ⌜ (self .0 < p) × (other .0 < p) ⌝ }
         ensures { λ r. ⌜ r .0 ≡ fp .mul (self .0) (other .0) ⌝ }
     {
-        let folded = Fp::folded((self.0 as u64) * (other.0 as u64));
-        if folded < Fp::P as u64 {
-            Fp(folded as u32)
-        } else {
-            Fp((folded - Fp::P as u64) as u32)
-        }
+        Fp::reduced(Fp::folded((self.0 as u64) * (other.0 as u64)))
     }
 
     // A number that is the same modulo p, and smaller: 2^31 is 1 modulo p, so that the bits from bit 31 on are added to those below.
@@ -102,18 +97,18 @@ impl Fp {
     }
 
     // A number that is the product modulo p, of a number that need not be below p and an element: greater than the number by less than
-    // 2^31. Inner: the number is below 2^33, the element below p.
+    // 2^31, and by one less for each 2^30 in the number. Inner: the number is below 2^33, the element below p.
     pub fn times(number: u64, other: Fp) -> u64
         requires { ⌜ (number < 8589934592) × (other .0 < p) ⌝ }
-        ensures { λ r. ⌜ (r % p ≡ fp .mul (number % p) (other .0)) × (r ≤ number + 2147483647) ⌝ }
+        ensures { λ r. ⌜ (r % p ≡ fp .mul (number % p) (other .0)) × (r + number / 1073741824 ≤ number + 2147483647) ⌝ }
     {
         Fp::folded(number * (other.0 as u64))
     }
 
-    // The same of two numbers: greater than twice the first by less than 2^31. Inner: both are below 2^32.
+    // A number that is the product of two numbers modulo p: their product, folded. Inner: that is below 2^64.
     pub fn product(one: u64, other: u64) -> u64
-        requires { ⌜ (one < 4294967296) × (other < 4294967296) ⌝ }
-        ensures { λ r. ⌜ (r % p ≡ fp .mul (one % p) (other % p)) × (r ≤ 2 * one + 2147483647) ⌝ }
+        requires { ⌜ one * other < 18446744073709551616 ⌝ }
+        ensures { λ r. ⌜ (r % p ≡ fp .mul (one % p) (other % p)) × (r ≤ one * other / 2147483648 + 2147483647) ⌝ }
     {
         Fp::folded(one * other)
     }
@@ -122,7 +117,16 @@ impl Fp {
     pub fn remainder(number: u64) -> Fp
         ensures { λ r. ⌜ r .0 ≡ number % p ⌝ }
     {
-        Fp((number % (Fp::P as u64)) as u32)
+        Fp::reduced(Fp::folded(Fp::folded(number)))
+    }
+
+    // The same of a number below 2·p: one more than it, folded, is one more than the element. Inner: it is below 2·p.
+    fn reduced(number: u64) -> Fp
+        requires { ⌜ number < 2 * p ⌝ }
+        ensures { λ r. ⌜ r .0 ≡ number % p ⌝ }
+    {
+        let next = number + 1;
+        Fp((next / Fp::FOLD + next % Fp::FOLD - 1) as u32)
     }
 }
 

@@ -33,21 +33,30 @@ pub enum Checked {
     Refused(Refusal),
 }
 
+// How many arrays an accepted key has at most.
+pub const MOST_ARRAYS: usize = 1024;
+
+// A key below so many bytes is short.
+pub const SHORT: usize = 192;
+
+// How many arrays, each of three bytes or more, a short key has at most.
+pub const SHORT_ARRAYS: usize = 64;
+
 // Whether bytes are an accepted key: its counts, or the first fault with its place.
 pub fn check(key: &[u8]) -> Checked
     ensures answer { λ r. ⌜ checkedOutcome r ≡ checkedKey (now (key .entry)) ⌝ }
 {
-    if key.len() < 192 {
-        let mut short = [0u16; 64];
+    if key.len() < SHORT {
+        let mut short = [0u16; SHORT_ARRAYS];
         return index(key, &mut short);
     }
-    let mut starts = [0u16; 1024];
+    let mut starts = [0u16; MOST_ARRAYS];
     index(key, &mut starts)
 }
 
 // What check answers; where the key is accepted, the first places of the table then hold the offset of each array's opening. Nothing is
 // said of its other places, nor of any where the key is refused. Inner: the table has a place for each array that a key of this length
-// may have, at most 1,024 of three bytes or more: 64 serve a key below 192 bytes.
+// may have, at most 1,024 of three bytes or more.
 //
 // The functions of `run` go over the records that keep their rules. Where they stop, only an end can keep its own: that record is taken
 // and judged here.

@@ -16,13 +16,20 @@ use Rattle.multilinear.specs.Weight.{weight}
 module _ (𝓐 : Arithmetic) where
   open Arithmetic 𝓐 using (Carrier, unit, sub, mul)
 
-  -- factors that agree on the bits in use
-  pub bitwise-same : (f g : ℕ → ℕ → Carrier) (n : ℕ) → ((i bit : ℕ) → i < n → bit < 2 → f i bit ≡ g i bit) →
-      (k from a : ℕ) → from + k ≤ n → bitwise 𝓐 f k from a ≡ bitwise 𝓐 g k from a
+  -- factors that agree on the bits in use, each from a bit of its own on
+  pub bitwise-same : (f g : ℕ → ℕ → Carrier) (k from start a : ℕ) →
+      ((i bit : ℕ) → i < k → bit < 2 → f (from + i) bit ≡ g (start + i) bit) → bitwise 𝓐 f k from a ≡ bitwise 𝓐 g k start a
   unfolding bitwise
-  bitwise-same f g n same zero from a l = refl
-  bitwise-same f g n same (suc k) from a l =
-      ap₂ mul (same from (a % 2) (omega arith) (omega arith)) (bitwise-same f g n same k (suc from) (a / 2) (omega arith))
+  bitwise-same f g zero from start a same = refl
+  bitwise-same f g (suc k) from start a same =
+      let here : from + 0 ≡ from = omega arith in
+      let there : start + 0 ≡ start = omega arith in
+      ap₂ mul
+      (ap (λ (i : ℕ). f i (a % 2)) (sym here) ∙ same 0 (a % 2) (omega arith) (omega arith) ∙ ap (λ (i : ℕ). g i (a % 2)) there)
+      (bitwise-same f g k (suc from) (suc start) (a / 2) (λ i bit m b.
+      let next : suc from + i ≡ from + suc i = omega arith in
+      let then : start + suc i ≡ suc start + i = omega arith in
+      ap (λ (j : ℕ). f j bit) next ∙ same (suc i) bit (omega arith) b ∙ ap (λ (j : ℕ). g j bit) then))
 
   -- the factors of coordinates
   pub bitwise-weight : (f : ℕ → ℕ → Carrier) (d : Carrier) (k from a : ℕ) (r : List Carrier) → k ≤ length r →

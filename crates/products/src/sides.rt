@@ -17,10 +17,10 @@ pub(crate) fn weights(header: Header)
     let count = header.count;
     let mut coordinates = [0u32; 30];
     if header.places == 64 {
-        let mut table = [0u32; 64];
+        let mut table = [0u32; table::PLACES];
         return by_table(header, &mut coordinates[0..count], &mut table);
     }
-    let mut table = [0u32; 448];
+    let mut table = [0u32; table::LIMB_PLACES];
     by_table(header, &mut coordinates[0..count], &mut table)
 }
 

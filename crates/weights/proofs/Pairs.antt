@@ -17,7 +17,7 @@ use Rattle.weights.proofs.Stores.{TwoStored, two-stored}
 module _ (table table' : List ℕ) (same : (k : ℕ) → k < 64 → getD table' k 0 ≡ getD table k 0) where
   pub bitwise-alike : (k from a : ℕ) → from + k ≤ 30 → bitwise fp (pairs table') k from a ≡ bitwise fp (pairs table) k from a
   bitwise-alike k from a l =
-      bitwise-same fp (pairs table') (pairs table) 30 (λ i bit m b. same (2 * i + bit) (omega arith)) k from a l
+      bitwise-same fp (pairs table') (pairs table) k from from a (λ i bit m b. same (2 * (from + i) + bit) (omega arith))
 
   pub complements-alike : (n : ℕ) → n ≤ 30 → Complements n table → Complements n table'
   complements-alike n few known i l =

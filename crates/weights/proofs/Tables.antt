@@ -22,7 +22,6 @@ module _ (coordinates before paired-table : List ℕ) (few : length coordinates 
   pub tabled-short : length paired-table ≤ 64 → Tabled coordinates paired-table
   tabled-short short = record {
     side = record {
-      few = few;
       short = record { few = few; room = room; numbers = paired .numbers; limbs = λ l. absurd (omega arith) };
       long = λ l. absurd (omega arith);
       beyond = λ l. absurd (omega arith);
@@ -75,7 +74,6 @@ module _ (coordinates before paired-table : List ℕ) (few : length coordinates 
       pub tabled-long : Tabled coordinates table
       tabled-long = record {
         side = record {
-          few = few;
           short = prepared-for (length coordinates) (omega arith);
           long = λ l. prepared-for (filled (length coordinates)) (omega arith);
           beyond = λ l i m n. made .first (2 * i + 0) (omega arith) ∙ filled-up .ones i m (omega arith) .0;

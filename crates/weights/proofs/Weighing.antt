@@ -9,7 +9,7 @@ use Rattle.field.specs.Fp.{p, fp}
 use Rattle.field.proofs.FpField.{fp-ring}
 use Rattle.multilinear.specs.Eq.{bitwise}
 use Rattle.multilinear.proofs.Bitwise.{bitwise-valid, bitwise-cut}
-use Rattle.weights.specs.Side.{pairs, Weighs}
+use Rattle.weights.specs.Side.{pairs, Small, Weighs}
 
 bitwise-below : (f : ℕ → ℕ → ℕ) (k from a : ℕ) → bitwise fp f k from a < p
 unfolding fp-ring
@@ -50,6 +50,25 @@ module _ (f : ℕ → ℕ → ℕ) (whole to product rest at : ℕ) where
       ∙ ap (λ (n : ℕ). fp .mul (product % p) (bitwise fp f n at rest)) (sym none)
       ∙ w .is
 
+-- nothing is multiplied yet
+pub weighing-start : (f : ℕ → ℕ → ℕ) (n product rest : ℕ) → Weighing f (fp .mul (product % p) (bitwise fp f n 0 rest)) n product rest 0
+weighing-start f n product rest =
+    let all : n - 0 ≡ n = omega arith in
+    record { is = ap (λ (k : ℕ). fp .mul (product % p) (bitwise fp f k 0 rest)) all; within = omega arith }
+
+-- the factors of the m bits that are left, counted from 0 on
+pub weighing-left : (f g : ℕ → ℕ → ℕ) (whole n product rest K m : ℕ) → m ≡ n - K → bitwise fp g m 0 rest ≡ bitwise fp f m K rest →
+    Weighing f whole n product rest K → Weighing g whole m product rest 0
+weighing-left f g whole n product rest K m left same w =
+    let all : m - 0 ≡ m = omega arith in
+    record {
+      is =
+          ap (fp .mul (product % p))
+          (ap (λ (k : ℕ). bitwise fp g k 0 rest) all ∙ same ∙ ap (λ (k : ℕ). bitwise fp f k K rest) left)
+          ∙ w .is;
+      within = omega arith;
+    }
+
 -- an element is to be multiplied by a weight
 pub weighing-begun : (f : ℕ → ℕ → ℕ) (to begun rest from at : ℕ) → begun < p → from ≡ at → from ≤ to →
     Weighing f (fp .mul begun (bitwise fp f (to - from) from rest)) to begun rest at
@@ -81,7 +100,7 @@ weighs-read table a from to k start weight some here e =
 -- the weight up to a bit, times that over the bits behind it
 pub weighs-onward : (table : List ℕ) (a from at to rest begun whole : ℕ) → from ≤ at → at ≤ to → rest ≡ a / 2 ^ (at - from) →
     begun ≡ bitwise fp (pairs table) (at - from) from a →
-    (whole % p ≡ fp .mul begun (bitwise fp (pairs table) (to - at) at rest)) × (whole < 8589934592) → Weighs table a from to whole
+    (whole % p ≡ fp .mul begun (bitwise fp (pairs table) (to - at) at rest)) × Small whole → Weighs table a from to whole
 weighs-onward table a from at to rest begun whole l m shifted first e =
     let f = pairs table in
     let all : to - from ≡ (at - from) + (to - at) = omega arith in

@@ -38,11 +38,14 @@ pub record Prepared (n : ℕ) (table : List ℕ) : Type 0 where
   pub numbers : Numbers table
   pub limbs : 64 < length table → Limbs (n / 5) table
 
--- A number's weight over the bits from one up to another by a table, as code has it: any number that is the weight modulo p and is
--- below 2^33.
+-- below 2^33 + 2^31
+abbrev pub Small : ℕ → Type 0
+Small weight = weight < 10737418240
+
+-- A number's weight over the bits from one up to another by a table, as code has it: any small number that is the weight modulo p.
 pub record Weighs (table : List ℕ) (a from to weight : ℕ) : Type 0 where
   pub is : weight % p ≡ bitwise fp (pairs table) (to - from) from a
-  pub small : weight < 8589934592
+  pub small : Small weight
 
 -- the bits of the limbs that have one of n bits
 abbrev pub filled : ℕ → ℕ
@@ -50,7 +53,6 @@ filled n = 5 * ((n + 4) / 5)
 
 -- a table for n coordinates: where it has blocks, the last limb is filled up with bits whose 0 has the factor 1
 pub record ForSide (n : ℕ) (table : List ℕ) : Type 0 where
-  pub few : n ≤ 30
   pub short : Prepared n table
   pub long : 64 < length table → Prepared (filled n) table
   pub beyond : 64 < length table → (i : ℕ) → n ≤ i → i < filled n → pairs table i 0 ≡ 1

@@ -66,7 +66,7 @@ fn whole_limbs(begun: Fp, a: u32, table: &[u32], from: usize, to: usize) -> u64
     let mut product = begun.value() as u64;
     let mut rest = a;
     for turn in 0..5 {
-        if from + turn == to {
+        if to <= from + turn {
             return product;
         }
         let weight = limb_weight(rest, table, from + turn, 5);

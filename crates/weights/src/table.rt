@@ -9,8 +9,11 @@ ghost use Rattle.algebra.specs.Points.{Below};
 ghost use Rattle.field.specs.Fp.{p};
 ghost use Rattle.weights.specs.Side.{Numbers, Tabled, Ready, Paired, FilledUp, Complements, BlocksMade, BlockGrown, Widened};
 
-// The places of single factors in a table, and those of a block of limb weights. A table without blocks weighs bit by bit.
-pub(crate) const PLACES: usize = 64;
+// The places of single factors in a table, and those of a block of limb weights. A table of so many has no blocks, and weighs bit by bit.
+pub const PLACES: usize = 64;
+
+// The places of a table with blocks for the limbs of 30 coordinates.
+pub const LIMB_PLACES: usize = 448;
 
 // Prepares a side: the factors of its coordinates, and where the table has places for blocks also the weights of its limbs. Inner:
 // there are at most 30 coordinates, each below p; the table has places for all, and holds only numbers below p.

@@ -1,5 +1,6 @@
 -- `evaluate::array::cells` meets its contract: one cell a turn.
-use Prim.Native.Nat.{_+_, _-_, _≤_, _<_}
+use Prim.Native.Nat.{ℕ, _+_, _-_, _≤_, _<_}
+use mathlib.Core.List.{List, []}
 use native.Mathlib.Omega.{arith}
 use denote.Ref.{now}
 use lib.ListN.{length, getD}
@@ -14,16 +15,17 @@ use Rattle.evaluate.proofs.Turns.{cell-room, cell-below, cell-added}
 use Rattle.evaluate.proofs.array.cells.Statement.{statement}
 use Rattle.evaluate.proofs.array.cells.Tie as tie
 
+-- what is left to add is the same for every sheet
 abbrev Inv-loop : tie.InvT-loop
-Inv-loop key starts arrays i reached rowwise columnwise sheet to sums₀ at₀ sums at =
-    CellsLeft key (prepared rowwise) (prepared columnwise) sheet i to (reducedIn sums) at × Bounded sums at
+Inv-loop key starts arrays i reached rowwise columnwise to sums₀ at₀ sums at =
+    ((sheet : List ℕ) → CellsLeft key (prepared rowwise) (prepared columnwise) sheet i to (reducedIn sums) at) × Bounded sums at
 
 abbrev μ-loop : tie.MeasureT-loop
-μ-loop key starts arrays i reached rowwise columnwise sheet to sums₀ at₀ sums at = to - at
+μ-loop key starts arrays i reached rowwise columnwise to sums₀ at₀ sums at = to - at
 
 -- before the first turn: the start, and an offset that fits
-abbrev begun : tie.After-shared-slice-known6 Inv-loop μ-loop → tie.Start Inv-loop μ-loop
-begun c = c .before .before .before .before .before .before .before
+abbrev begun : tie.After-shared-slice-known5 Inv-loop μ-loop → tie.Start Inv-loop μ-loop
+begun c = c .before .before .before .before .before .before
 
 module _ (a : tie.Start Inv-loop μ-loop) where
   inside : a .args .i < length (keyArrays (now (a .args .key)))
@@ -34,11 +36,11 @@ module _ (a : tie.Start Inv-loop μ-loop) where
   offset-small = opening-inside _ _ (a .pre .0) (a .args .i) inside
 
 behind-requires : tie.Need-behind-requires Inv-loop μ-loop
-behind-requires c κs = let a = c .before .before .before .before .before in (a .pre .0, (a .pre .1 .0, a .pre .1 .1 .0))
+behind-requires c κs = let a = c .before .before .before .before in (a .pre .0, (a .pre .1 .0, a .pre .1 .1 .0))
 
 mul-at : tie.Need-mul-at Inv-loop μ-loop
 mul-at c =
-    let a = c .before .before .before .before .before .before in omega (arith, inside a, accepts _ _ (a .pre .0) .at-most-1024)
+    let a = c .before .before .before .before .before in omega (arith, inside a, accepts _ _ (a .pre .0) .at-most-1024)
 
 shared-slice-read-at : tie.Need-shared-slice-read-at Inv-loop μ-loop
 shared-slice-read-at c = let a = begun c in omega (arith, a .pre .0 .room, inside a)
@@ -52,7 +54,7 @@ add-at c = record { fits = omega (arith, offset-small (begun c)) }
 loop-holds : tie.Need-loop-holds Inv-loop μ-loop
 loop-holds c =
     let a = begun c in (
-      rw (c .before .behind .ensures)
+      λ sheet. rw (c .before .behind .ensures)
           (cells-begun _ _ _ _ _ _ _ (entries-run _ _ (a .pre .0) (a .args .i) (inside a))
           (accepts _ _ (a .pre .0) .well-formed .arrays-fit (a .args .i) (inside a) .entries-fit) (a .pre .1 .1 .1 .0)),
       record { a-bound = omega arith; b-bound = omega arith; c-bound = omega arith },
@@ -65,7 +67,7 @@ start c = begun (c .before .before)
 room : (c : tie.In-loop Inv-loop μ-loop) → c .before .loop .at + 21 ≤ length (now (start c .args .key))
 room c =
     let a = start c in
-    cell-room _ _ _ _ _ _ (a .args .reached) (a .pre .1 .1 .1 .1) _ _ (c .loop-test .taken) (c .before .loop .inv .0)
+    cell-room _ _ _ _ _ _ (a .args .reached) (a .pre .1 .1 .1 .1) _ _ (c .loop-test .taken) (c .before .loop .inv .0 [])
 
 add-cell : tie.Need-add-cell Inv-loop μ-loop
 add-cell c = omega (arith, room c, offset-small (start c) .1)
@@ -82,7 +84,7 @@ cell-requires-2 c κs =
     let t = c .before in
     let a = start t in
     let far = a .pre .1 .1 .1 .1 in (
-      cell-below _ _ _ _ _ _ (a .args .reached) far _ _ (t .loop-test .taken) (t .before .loop .inv .0) _ (c .cell .ensures),
+      cell-below _ _ _ _ _ _ (a .args .reached) far _ _ (t .loop-test .taken) (t .before .loop .inv .0 []) _ (c .cell .ensures),
       (far .rows-reached .side, (far .columns-reached .side, light t)),
     )
 
@@ -96,13 +98,13 @@ loop-again : tie.Need-loop-again Inv-loop μ-loop
 loop-again c =
     let t = c .before .before in
     let a = start t in (
-      cell-added _ _ _ _ _ _ (a .args .reached) (a .pre .1 .1 .1 .1) _ _ (t .loop-test .taken) (t .before .loop .inv .0) _
+      λ sheet. cell-added _ _ _ _ _ _ (a .args .reached) (a .pre .1 .1 .1 .1) _ _ (t .loop-test .taken) (t .before .loop .inv .0 sheet) _
           (c .before .cell .ensures) _ (c .cell2 .ensures .is),
       bounded-onward _ _ _ _ _ (omega arith) (c .cell2 .ensures) (t .before .loop .inv .1),
     )
 
 returns : tie.Need-returns Inv-loop μ-loop
-returns c = cells-done _ _ _ _ _ _ _ _ (omega (arith, c .loop-test .left)) (c .before .loop .inv .0)
+returns c sheet = cells-done _ _ _ _ _ _ _ _ (omega (arith, c .loop-test .left)) (c .before .loop .inv .0 sheet)
 
 pub cells-spec : {M : Type 1} → statement M
 cells-spec =

@@ -55,7 +55,8 @@ calls-requires c κs =
     )
 
 returns : tie.Need-returns
-returns c = search needs
+returns c =
+    let a = c .before .before .before .before .before .before .before .before .before in c .cells .ensures (now (a .args .sheet))
 
 returns-2 : tie.Need-returns-2
 returns-2 c = search needs

@@ -1,6 +1,7 @@
 -- `evaluate::entry::add_weighed` meets its contract: the two weights are multiplied once, and then one product for each of the three.
-use Prim.Native.Nat.{ℕ, _%_, _<_}
+use Prim.Native.Nat.{ℕ, _*_, _%_, _≤_, _<_}
 use mathlib.Core.Path.{_≡_, ap, ap₂, _∙_}
+use native.Mathlib.Nat.{mul-le-mul}
 use native.Mathlib.Omega.{arith}
 use borrow.Author.Needs.{needs}
 use Rattle.field.specs.Fp.{p, fp}
@@ -15,16 +16,20 @@ folded-requires c κs = search needs
 folded-requires-2 : tie.Need-folded-requires-2
 folded-requires-2 c κs = search needs
 
+-- each of the two is at most 2^31 + 3 when it is folded, so that 64 bits have room for their product
+fits : (c : tie.After-folded2) → c .before .folded .result * c .folded2 .result ≤ 4611686031312289801
+fits c =
+    let a = c .before .before in
+    let row : c .before .folded .result ≤ 2147483651 = omega (arith, c .before .folded .ensures .1, a .pre .2) in
+    let column : c .folded2 .result ≤ 2147483651 = omega (arith, c .folded2 .ensures .1, a .pre .3) in
+    omega (arith, mul-le-mul row column)
+
 product-requires : tie.Need-product-requires
-product-requires c κs =
-    let a = c .before .before in (
-      omega (arith, c .before .folded .ensures .1, a .pre .2),
-      omega (arith, c .folded2 .ensures .1, a .pre .3),
-    )
+product-requires c κs = omega (arith, fits c)
 
 -- the weight is below 2^33, and modulo p it is that of the row times that of the column
 small : (c : tie.After-product) → c .product .result < 8589934592
-small c = let a = c .before .before .before in omega (arith, c .product .ensures .1, c .before .before .folded .ensures .1, a .pre .2)
+small c = omega (arith, c .product .ensures .1, fits (c .before))
 
 is : (c : tie.After-product) →
     let a = c .before .before .before .args in c .product .result % p ≡ fp .mul (a .row-weight % p) (a .column-weight % p)

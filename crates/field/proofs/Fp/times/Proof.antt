@@ -1,4 +1,5 @@
--- `field::Fp::times` meets its contract: what is folded up is at most the number, since the element is below 2^31.
+-- `field::Fp::times` meets its contract: the element is at most 2^31 - 2, so that the bits of the product from bit 31 on are less than the
+-- number by one for each 2^30 in it.
 use Prim.Native.Nat.{ℕ, _*_, _≤_, _<_}
 use mathlib.Core.Path.{sym, _∙_}
 use native.Mathlib.Nat.{mul-le-mul}
@@ -9,8 +10,8 @@ use Rattle.field.proofs.Remainders.{mod-mul-mod}
 use Rattle.field.proofs.Fp.times.Statement.{statement}
 use Rattle.field.proofs.Fp.times.Tie as tie
 
-fits : (number other : ℕ) → (number < 8589934592) × (other < p) → number * other ≤ number * 2147483648
-fits number other below = let l : number ≤ number = omega arith in let m : other ≤ 2147483648 = omega arith in mul-le-mul l m
+fits : (number other : ℕ) → (number < 8589934592) × (other < p) → number * other ≤ number * 2147483646
+fits number other below = let l : number ≤ number = omega arith in let m : other ≤ 2147483646 = omega arith in mul-le-mul l m
 
 cast-folded : tie.Need-cast-folded
 cast-folded c = search needs

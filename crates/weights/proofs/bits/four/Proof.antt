@@ -1,79 +1,56 @@
--- `weights::bits::four` meets its contract: the four factors are multiplied two by two.
-use Prim.Native.Nat.{_+_}
-use mathlib.Core.Path.{ap₂, _∙_}
-use native.Mathlib.Omega.{arith}
+-- `weights::bits::four` meets its contract: each product is greater than the number before it by less than 2^31.
+use mathlib.Core.Path.{ap, _∙_}
 use denote.Ref.{now}
 use borrow.Author.Needs.{needs}
+use Prim.Native.Nat.{ℕ}
 use Rattle.field.specs.Fp.{fp}
-use Rattle.weights.proofs.Factors.{four-factors}
-use Rattle.weights.proofs.LimbWeights.{fewer}
+use Rattle.weights.proofs.Factors.{four-factors, four-small}
 use Rattle.weights.proofs.bits.four.Statement.{statement}
 use Rattle.weights.proofs.bits.four.Tie as tie
 
 single-requires : tie.Need-single-requires
-single-requires c κs = let s = c .before in (omega arith, fewer (s .args .at + 4) _ (now (s .args .table)) (omega arith) (s .pre))
+single-requires c κs = search needs
 
 value-requires : tie.Need-value-requires
 value-requires c κs = search needs
 
-cast-low : tie.Need-cast-low
-cast-low c = search needs
-
-add-single : tie.Need-add-single
-add-single c = search needs
+cast-one : tie.Need-cast-one
+cast-one c = search needs
 
 single-requires-2 : tie.Need-single-requires-2
-single-requires-2 c κs =
-    let s = c .before .before .before in (omega arith, fewer (s .args .at + 4) _ (now (s .args .table)) (omega arith) (s .pre))
-
-value-requires-2 : tie.Need-value-requires-2
-value-requires-2 c κs = search needs
-
-cast-high : tie.Need-cast-high
-cast-high c = search needs
-
-add-single-2 : tie.Need-add-single-2
-add-single-2 c = search needs
-
-single-requires-3 : tie.Need-single-requires-3
-single-requires-3 c κs =
-    let s = c .before .before .before .before .before in
-    (omega arith, fewer (s .args .at + 4) _ (now (s .args .table)) (omega arith) (s .pre))
+single-requires-2 c κs = search needs
 
 times-requires : tie.Need-times-requires
 times-requires c κs = search needs
 
-add-single-3 : tie.Need-add-single-3
-add-single-3 c = search needs
-
-single-requires-4 : tie.Need-single-requires-4
-single-requires-4 c κs =
-    let s = c .before .before .before .before .before .before .before in
-    (omega arith, fewer (s .args .at + 4) _ (now (s .args .table)) (omega arith) (s .pre))
+single-requires-3 : tie.Need-single-requires-3
+single-requires-3 c κs = search needs
 
 times-requires-2 : tie.Need-times-requires-2
 times-requires-2 c κs = search needs
 
-product-requires : tie.Need-product-requires
-product-requires c κs = search needs
+single-requires-4 : tie.Need-single-requires-4
+single-requires-4 c κs = search needs
 
-folded-requires : tie.Need-folded-requires
-folded-requires c κs = search needs
+times-requires-3 : tie.Need-times-requires-3
+times-requires-3 c κs = search needs
 
 returns : tie.Need-returns
 returns c =
-    let odd = c .before .before .before in
-    let even = odd .before .before .before .before in
-    let s = even .before .before .before .before in (
-      c .folded .ensures .0
-          ∙ c .before .product .ensures .0
-          ∙ ap₂ (fp .mul) (odd .before .times .ensures .0) (c .before .before .times2 .ensures .0)
-          ∙ four-factors (now (s .args .table)) (s .args .at) (s .args .a) _ _ _ _ (s .pre .numbers)
-          (even .before .value .ensures ∙ even .before .before .single .ensures .0)
-          (odd .before .before .single3 .ensures .0)
-          (odd .before .before .before .value2 .ensures ∙ even .single2 .ensures .0)
-          (odd .single4 .ensures .0),
-      omega arith,
+    let three = c .before in
+    let two = three .before .before in
+    let one = two .before .before in
+    let s = one .before .before .before .before in (
+      c .times3 .ensures .0
+          ∙ ap (λ (x : ℕ). fp .mul x (three .single4 .result .0))
+          (three .before .times2 .ensures .0 ∙ ap (λ (x : ℕ). fp .mul x (two .single3 .result .0)) (two .before .times .ensures .0))
+          ∙ four-factors (now (s .args .factors)) (s .args .a) _ _ _ _ (s .pre .1)
+          (one .before .value .ensures ∙ one .before .before .single .ensures .0)
+          (one .single2 .ensures .0)
+          (two .single3 .ensures .0)
+          (three .single4 .ensures .0),
+      four-small _ _ _ _ (rw (one .before .value .ensures) (one .before .before .single .ensures .1)) (two .before .times .ensures .1)
+          (three .before .times2 .ensures .1) (c .times3 .ensures .1),
     )
 
 pub four-spec : {M : Type 1} → statement M
@@ -82,17 +59,11 @@ four-spec =
     (tie.spec
     single-requires
     value-requires
-    cast-low
-    add-single
+    cast-one
     single-requires-2
-    value-requires-2
-    cast-high
-    add-single-2
-    single-requires-3
     times-requires
-    add-single-3
-    single-requires-4
+    single-requires-3
     times-requires-2
-    product-requires
-    folded-requires
+    single-requires-4
+    times-requires-3
     returns)

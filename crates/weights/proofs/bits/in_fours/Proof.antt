@@ -1,69 +1,96 @@
--- `weights::bits::in_fours` meets its contract: four factors a turn.
-use Prim.Native.Nat.{ℕ, _+_, _-_, _%_, _≤_, _<_}
+-- `weights::bits::in_fours` meets its contract: four factors a turn, and the factors that are left are a part of those before.
+use Prim.Native.Nat.{ℕ, _-_, _*_, _/_, _%_, _≤_}
+use mathlib.Core.List.{List}
 use mathlib.Core.Path.{_≡_, refl, ap, _∙_}
 use native.Mathlib.Omega.{arith}
 use denote.Ref.{now}
+use lib.ListN.{length, take, drop}
 use Rattle.field.specs.Fp.{p, fp}
 use Rattle.multilinear.specs.Eq.{bitwise}
-use Rattle.weights.specs.Side.{pairs}
-use Rattle.weights.proofs.LimbWeights.{fewer}
-use Rattle.weights.proofs.Weighing.{Weighing, weighing-onward, weighing-done}
+use Rattle.weights.specs.Side.{pairs, Numbers, Small}
+use Rattle.weights.proofs.Factors.{four-fits, part-length, part-weight, part-numbers}
+use Rattle.weights.proofs.Weighing.{Weighing, weighing-start, weighing-onward, weighing-left, weighing-done}
 use Rattle.weights.proofs.bits.in_fours.Statement.{statement}
 use Rattle.weights.proofs.bits.in_fours.Tie as tie
 
 abbrev Inv-loop : tie.InvT-loop
-Inv-loop begun a table from to product₀ rest₀ at₀ product rest at =
-    Weighing (pairs table) (fp .mul (begun % p) (bitwise fp (pairs table) (to - from) from a)) to product rest at
-    × ((to - at) % 4 ≡ 0) × (product < 8589934592)
+Inv-loop begun a factors product₀ rest₀ left₀ product rest left =
+    Weighing (pairs left) (fp .mul (begun % p) (bitwise fp (pairs factors) (length factors / 2) 0 a)) (length left / 2) product rest 0
+    × (length left % 8 ≡ 0) × Numbers left × Small product
 
 abbrev μ-loop : tie.MeasureT-loop
-μ-loop begun a table from to product₀ rest₀ at₀ product rest at = to - at
-
--- a turn's four factors are there
-inside : (c : tie.In-loop Inv-loop μ-loop) → c .before .loop .at + 4 ≤ c .before .before .before .args .to
-inside c = omega (arith, c .loop-test .taken, c .before .loop .inv .1)
+μ-loop begun a factors product₀ rest₀ left₀ product rest left = length left
 
 loop-holds : tie.Need-loop-holds Inv-loop μ-loop
-loop-holds c = let s = c .before in (record { is = refl; within = s .pre .0 }, s .pre .1, s .pre .2)
+loop-holds c = let s = c .before in (weighing-start _ _ _ _, s .pre .1, s .pre .2, s .pre .0)
+
+-- the factors that a turn leaves
+abbrev after : List ℕ → List ℕ
+after left = take (length left - 8) (drop 8 left)
+
+after-length : (left : List ℕ) → 8 ≤ length left → length (after left) ≡ length left - 8
+after-length left l = part-length left 8 (length left - 8) (omega arith)
+
+-- a turn's eight factors are there
+inside : (c : tie.In-loop Inv-loop μ-loop) → 8 ≤ length (now (c .before .loop .left))
+inside c = omega (arith, c .loop-test .taken, c .before .loop .inv .1)
 
 four-requires : tie.Need-four-requires Inv-loop μ-loop
-four-requires c κs =
-    let s = c .before .before .before in fewer (s .args .to) _ (now (s .args .table)) (inside c) (s .pre .3)
+four-requires c κs = (inside c, c .before .loop .inv .2)
 
 folded-requires : tie.Need-folded-requires Inv-loop μ-loop
 folded-requires c κs = tt
 
-product-requires : tie.Need-product-requires Inv-loop μ-loop
-product-requires c κs =
-    (omega (arith, c .folded .ensures .1, c .before .before .before .loop .inv .2), c .before .four .ensures .1)
+-- a turn's product has room
+fits : (c : tie.After-folded Inv-loop μ-loop) → c .folded .result * c .before .four .result ≤ 18446744069414584278
+fits c =
+    four-fits _ _ (omega (arith, c .folded .ensures .1, c .before .before .before .loop .inv .3)) (c .before .four .ensures .1)
 
-add-at : tie.Need-add-at Inv-loop μ-loop
-add-at c =
-    let turn = c .before .before .before in omega (arith, inside turn, turn .before .before .before .pre .3 .few)
+product-requires : tie.Need-product-requires Inv-loop μ-loop
+product-requires c κs = omega (arith, fits c)
+
+sub-left : tie.Need-sub-left Inv-loop μ-loop
+sub-left c = inside (c .before .before .before)
+
+part-left-start : tie.Need-part-left-start Inv-loop μ-loop
+part-left-start c = inside (c .before .before .before)
+
+part-left-end : tie.Need-part-left-end Inv-loop μ-loop
+part-left-end c = omega arith
 
 loop-less : tie.Need-loop-less Inv-loop μ-loop
-loop-less c = omega (arith, c .before .before .before .loop-test .taken)
+loop-less c =
+    let turn = c .before .before .before .before in
+    omega (arith, inside turn, after-length (now (turn .before .loop .left)) (inside turn))
 
 loop-again : tie.Need-loop-again Inv-loop μ-loop
 loop-again c =
-    let turn = c .before .before .before in
+    let turn = c .before .before .before .before in
     let t = turn .before in
     let s = t .before .before in
-    let folded = c .before .folded in
-    let four = c .before .before .four in (
-      weighing-onward (pairs (now (s .args .table))) _ (s .args .to) (t .loop .product) (t .loop .rest) (t .loop .at) 4 _
-          (four .result % p) (inside turn) (four .ensures .0)
-          (c .product .ensures .0 ∙ ap (λ (x : ℕ). fp .mul x (four .result % p)) (folded .ensures .0)) (t .loop .inv .0),
-      omega (arith, inside turn, t .loop .inv .1),
-      omega (arith, c .product .ensures .1, folded .ensures .1, t .loop .inv .2),
+    let left = now (t .loop .left) in
+    let folded = c .before .before .folded in
+    let four = c .before .before .before .four in
+    let size : length (after left) ≡ length left - 8 = after-length left (inside turn) in
+    let bits : length (after left) / 2 ≡ length left / 2 - 4 = omega (arith, size) in
+    let all : length left - 8 ≡ 2 * (length (after left) / 2) = omega (arith, size, inside turn, t .loop .inv .1) in (
+      weighing-left (pairs left) _ _ (length left / 2) (c .before .product .result) (t .loop .rest / 16) 4
+          (length (after left) / 2) bits
+          (part-weight left 8 (length left - 8) 4 (length (after left) / 2) (t .loop .rest / 16) refl all)
+          (weighing-onward (pairs left) _ (length left / 2) (t .loop .product) (t .loop .rest) 0 4 _ (four .result % p)
+          (omega (arith, inside turn, t .loop .inv .1)) (four .ensures .0)
+          (c .before .product .ensures .0 ∙ ap (λ (x : ℕ). fp .mul x (four .result % p)) (folded .ensures .0)) (t .loop .inv .0)),
+      omega (arith, size, inside turn, t .loop .inv .1),
+      part-numbers left 8 (length left - 8) (t .loop .inv .2),
+      omega (arith, c .before .product .ensures .1, fits (c .before .before)),
     )
 
 returns : tie.Need-returns Inv-loop μ-loop
 returns c =
-    let t = c .before in
-    let s = t .before .before in (
-      weighing-done (pairs (now (s .args .table))) _ (s .args .to) _ _ (t .loop .at) (omega (arith, c .loop-test .left)) (t .loop .inv .0),
-      t .loop .inv .2,
+    let t = c .before in (
+      weighing-done (pairs (now (t .loop .left))) _ (length (now (t .loop .left)) / 2) _ _ 0 (omega (arith, c .loop-test .left))
+          (t .loop .inv .0),
+      t .loop .inv .3,
     )
 
 pub in-fours-spec : {M : Type 1} → statement M
@@ -76,7 +103,9 @@ in-fours-spec =
     four-requires
     folded-requires
     product-requires
-    add-at
+    sub-left
+    part-left-start
+    part-left-end
     loop-less
     loop-again
     returns)

@@ -16,10 +16,10 @@ shared-slice-read-new : tie.Need-shared-slice-read-new
 shared-slice-read-new c = search needs
 
 new-requires : tie.Need-new-requires
-new-requires c κs = c .before .before .pre .1 .numbers _
+new-requires c κs = c .before .before .pre .2 _
 
 returns : tie.Need-returns
-returns c = (c .new .ensures, rw (c .new .ensures) (c .before .before .before .pre .1 .numbers _))
+returns c = (c .new .ensures, rw (c .new .ensures) (c .before .before .before .pre .2 _))
 
 pub single-spec : {M : Type 1} → statement M
 single-spec =

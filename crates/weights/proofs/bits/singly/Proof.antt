@@ -5,9 +5,8 @@ use native.Mathlib.Omega.{arith}
 use denote.Ref.{now}
 use Rattle.field.specs.Fp.{p, fp}
 use Rattle.multilinear.specs.Eq.{bitwise}
-use Rattle.weights.specs.Side.{pairs}
+use Rattle.weights.specs.Side.{pairs, Small}
 use Rattle.weights.proofs.Factors.{factor-alone}
-use Rattle.weights.proofs.LimbWeights.{fewer}
 use Rattle.weights.proofs.Weighing.{Weighing, weighing-onward, weighing-done}
 use Rattle.weights.proofs.bits.singly.Statement.{statement}
 use Rattle.weights.proofs.bits.singly.Tie as tie
@@ -15,7 +14,7 @@ use Rattle.weights.proofs.bits.singly.Tie as tie
 abbrev Inv-loop : tie.InvT-loop
 Inv-loop begun a table from to product₀ rest₀ i₀ product rest i =
     Weighing (pairs table) (fp .mul (begun % p) (bitwise fp (pairs table) (to - from) from a)) to product rest i
-    × (product < 8589934592)
+    × Small product
 
 abbrev μ-loop : tie.MeasureT-loop
 μ-loop begun a table from to product₀ rest₀ i₀ product rest i = to - i
@@ -29,7 +28,7 @@ folded-requires c κs = tt
 single-requires : tie.Need-single-requires Inv-loop μ-loop
 single-requires c κs =
     let s = c .before .before .before .before in
-    (omega arith, fewer (s .args .to) _ (now (s .args .table)) (omega (arith, c .before .loop-test .taken)) (s .pre .2))
+    (omega arith, omega (arith, c .before .loop-test .taken, s .pre .2 .few, s .pre .2 .room), s .pre .2 .numbers)
 
 times-requires : tie.Need-times-requires Inv-loop μ-loop
 times-requires c κs =

@@ -75,7 +75,7 @@ returns-2 c =
           (begun .limb-weight .result .0) (c .whole-limbs .result) (omega arith) (omega (arith, first))
           (ap (λ (n : ℕ). s .args .a / 2 ^ n) bits)
           (begun .limb-weight .ensures .0 ∙ ap₂ (λ (n i : ℕ). bitwise fp (pairs (now (s .args .table))) n i (s .args .a)) bits here)
-          (c .whole-limbs .ensures),
+          (c .whole-limbs .ensures .0, omega (arith, c .whole-limbs .ensures .1)),
     )
 
 pub in-limbs-spec : {M : Type 1} → statement M

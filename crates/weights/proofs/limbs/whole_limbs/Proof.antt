@@ -109,7 +109,7 @@ loop-again c =
           (c .settled .ensures .0 ∙ c .before .times .ensures .0) (t .loop .inv .0)),
       omega (arith, turn .before .loop-test .taken),
       small-onward (t .loop .turn) (t .loop .product) (c .before .times .result) (c .settled .result)
-          (omega (arith, turn .before .loop-test .taken)) (t .loop .inv .2) (c .before .times .ensures .1)
+          (omega (arith, turn .before .loop-test .taken)) (t .loop .inv .2) (omega (arith, c .before .times .ensures .1))
           (c .settled .ensures .1) (c .settled .ensures .2),
     )
 
