@@ -1,14 +1,15 @@
 #!/usr/bin/env python3
-"""Writes what the test programs crates/cases and crates/products are run on and what they must print, from 01-scope.md and
-from eq as 004 prints it alone.
+"""Writes what the test programs crates/cases, crates/cases_quadratic and crates/products are run on and what they must print,
+from 01-scope.md, from E2 of 02-change-requests.md and from eq as 004 prints it alone.
 
 usage: cases.py [--check | --help]
 
 Without --check it writes stdin and stdout of each program; with it, it says whether they are up to date and exits 1 where
-they are not. The cases of crates/products, on eq, are in products.py; what follows is of crates/cases. Edges that 01 words are
-written with the answer that 01 gives: those of evaluate and cell in evaluations.py and refusals.py, those of compare in
-comparisons.py and comparison_refusals.py. Every answer, of these and of the sweeps around them, is worked out by model.py from
-01, and the two must agree. What compare answers at every point of a list of values is known in closed form alone (counts.py).
+they are not. The cases of crates/cases_quadratic, over p², are in quadratics.py, and those of crates/products, on eq, in
+products.py; what follows is of crates/cases. Edges that 01 words are written with the answer that 01 gives: those of evaluate
+and cell in evaluations.py and refusals.py, those of compare in comparisons.py and comparison_refusals.py. Every answer, of
+these and of the sweeps around them, is worked out by model.py from 01, and the two must agree. What compare answers at every
+point of a list of values is known in closed form alone (counts.py).
 """
 
 import itertools
@@ -24,6 +25,7 @@ from evaluations import evaluation_cases, numbered
 from model import (
     LAYOUT,
     P,
+    PRIME,
     SAMPLE,
     TOP,
     Refusal,
@@ -49,6 +51,7 @@ from model import (
     words,
 )
 from products import product_cases
+from quadratics import quadratic_cases
 from refusals import refusal_cases
 
 CRATES = pathlib.Path(__file__).resolve().parent.parent / "crates"
@@ -63,6 +66,8 @@ OPERATIONS = {
     "cell": 8,
     "compare": 9,
     "count": 10,
+    "evaluate_quadratic": 11,
+    "compare_quadratic": 12,
 }
 
 # 01, 'An accepted key': beginnings of a key, and the records that may follow each.
@@ -85,9 +90,9 @@ def array_count(data):
         return 1
 
 
-def lent(*keys):
+def lent(field, *keys):
     """A sheet with two places more than the arrays of each key need."""
-    return numbered(3 * max(map(array_count, keys)) + 2)
+    return numbered(3 * field.size * max(map(array_count, keys)) + 2)
 
 
 def zeros_of(data):
@@ -154,38 +159,41 @@ class Cases:
         answer = agreed(wanted, check(data))
         self.add_keyed("check", text, data, "", answer)
 
-    def evaluate(self, text, rows, columns, wanted=None, sheet=None, unroll=True, name=None):
+    def evaluate(self, text, rows, columns, wanted=None, sheet=None, unroll=True, name=None, field=PRIME):
         """An evaluation of a key in words. `wanted` is the refusal or each array's A, B and C, where they are known
         without the model; a key that is too large to unroll needs them. A `name` stands for a key that is long in words.
         """
         data = key(text)
-        sheet = lent(data) if sheet is None else sheet
-        answer = agreed(settled(wanted, sheet), evaluate(data, rows, columns, sheet, None if unroll else wanted))
+        sheet = lent(field, data) if sheet is None else sheet
+        worked_out = evaluate(data, rows, columns, sheet, None if unroll else wanted, field)
+        answer = agreed(settled(wanted, sheet), worked_out)
         behind = f" at rows {listed(rows)} columns {listed(columns)} on sheet {listed(sheet)}"
         fields = (len(rows), len(columns), len(sheet))
-        self.add_keyed("evaluate", name or text, data, behind, answer, fields, [*rows, *columns, *sheet])
+        call = f"evaluate{field.suffix}"
+        self.add_keyed(call, name or text, data, behind, answer, fields, [*rows, *columns, *sheet])
 
     def cell(self, text, row, column, wanted=None, sheet=None, unroll=True, name=None):
         """A cell of a key in words; the rest is as for evaluate."""
         data = key(text)
-        sheet = lent(data) if sheet is None else sheet
+        sheet = lent(PRIME, data) if sheet is None else sheet
         answer = agreed(settled(wanted, sheet), cell(data, row, column, sheet, None if unroll else wanted))
         behind = f" at row {row} column {column} on sheet {listed(sheet)}"
         self.add_keyed("cell", name or text, data, behind, answer, (row, column, len(sheet)), sheet)
 
-    def compare(self, first, second, rows, columns, wanted=None, sheet=None, known=None, unroll=True):
+    def compare(self, first, second, rows, columns, wanted=None, sheet=None, known=None, unroll=True, field=PRIME):
         """A comparison of two keys in words. `wanted` is what is said, or which key is refused and how, where 01 words it,
         with the sheet afterwards or without; `known` is each array's A, B and C of the two keys, which keys that are too
         large to unroll need.
         """
         keys = key(first), key(second)
-        sheet = lent(*keys) if sheet is None else sheet
-        answer = compare(*keys, rows, columns, sheet, None if unroll else known)
+        sheet = lent(field, *keys) if sheet is None else sheet
+        answer = compare(*keys, rows, columns, sheet, None if unroll else known, field)
         agreed(wanted, answer if wanted and " sheet" in wanted else answer.partition(" sheet")[0])
-        agreed(known and compare(*keys, rows, columns, sheet, known), answer)
+        agreed(known and compare(*keys, rows, columns, sheet, known, field), answer)
         behind = f" at rows {listed(rows)} columns {listed(columns)} on sheet {listed(sheet)}"
         counts = (len(rows), len(columns), len(sheet))
-        self.add_pair("compare", (first, second), keys, behind, answer, counts, [*rows, *columns, *sheet])
+        call = f"compare{field.suffix}"
+        self.add_pair(call, (first, second), keys, behind, answer, counts, [*rows, *columns, *sheet])
 
     def count(self, first, second, bits, values, said, name):
         """Comparisons of two keys in words at every point of so many row and column coordinates that are among the values,
@@ -529,6 +537,13 @@ def public_cases():
     return cases
 
 
+def cases_over_p_squared():
+    """All cases of the public calls over p², with numbers drawn apart from those of the other programs."""
+    cases = Cases()
+    quadratic_cases(cases, Draw())
+    return cases
+
+
 def files_of(folder, inputs):
     """What a program is run on and what it must print, by file."""
     return {
@@ -545,7 +560,10 @@ def main(arguments):
     if arguments not in ([], ["--check"]):
         print(__doc__.split("\n\n")[1], file=sys.stderr)
         return 2
-    files = files_of(CRATES / "cases", public_cases().inputs) | files_of(CRATES / "products", product_cases().inputs)
+    programs = {"cases": public_cases(), "cases_quadratic": cases_over_p_squared(), "products": product_cases()}
+    files = {}
+    for name, cases in programs.items():
+        files |= files_of(CRATES / name, cases.inputs)
     for path, content in files.items():
         if not arguments:
             path.write_bytes(content)

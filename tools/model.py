@@ -1,9 +1,10 @@
-"""What the calls answer, worked out from 01-scope.md alone: the layout, the rules and the refusals, and nothing of the
-Rattle code. Answers are lines as the test program prints them. Evaluations are worked out on the dense form, which is
-unrolled place by place.
+"""What the calls answer, worked out from 01-scope.md and 02-change-requests.md alone: the layout, the rules and the
+refusals, and nothing of the Rattle code. Answers are lines as the test program prints them. Evaluations are worked out on the
+dense form, which is unrolled place by place.
 """
 
 import collections
+import dataclasses
 import itertools
 
 P = 2**31 - 1
@@ -25,6 +26,53 @@ SAMPLE = bytes.fromhex(
     "010101 020001 04 00000000 01000000 05000000 07000000 00000000 030101"
     "05 0000 00000000 00000000 05 0000 00000000 00000000 06"
 )
+
+
+@dataclasses.dataclass(frozen=True)
+class Gaussian:
+    """u + v·i with i² = -1, of whole numbers; modulo p, an element of the field of p² elements. A whole number serves as one
+    whose v is 0.
+    """
+
+    u: int
+    v: int = 0
+
+    def __mul__(self, other):
+        other = gaussian(other)
+        return Gaussian(self.u * other.u - self.v * other.v, self.u * other.v + self.v * other.u)
+
+    def __add__(self, other):
+        other = gaussian(other)
+        return Gaussian(self.u + other.u, self.v + other.v)
+
+    def __rsub__(self, number):
+        return Gaussian(number - self.u, -self.v)
+
+    def __mod__(self, modulus):
+        return Gaussian(self.u % modulus, self.v % modulus)
+
+    __rmul__ = __mul__
+
+
+def gaussian(x):
+    """The Gaussian number that x is."""
+    return x if isinstance(x, Gaussian) else Gaussian(x)
+
+
+class Field(collections.namedtuple("Field", ("suffix", "size", "element", "numbers"))):
+    """A field that points come from: what its calls' names end in, how many numbers an element is, and the element and its
+    numbers as functions of each other. Elements are multiplied, added and subtracted from 1 as whole numbers are, and reduced
+    modulo p.
+    """
+
+    def elements(self, numbers):
+        """The elements that a list of numbers is."""
+        return [self.element(*numbers[i : i + self.size]) for i in range(0, len(numbers), self.size)]
+
+
+# 01, 'The field', and 02, E2.
+PRIME = Field("", 1, lambda number: number, lambda x: (x,))
+QUADRATIC = Field("_quadratic", 2, Gaussian, dataclasses.astuple)
 
 
 # An array of a key: its opening's name, its bits and the fields of its cells or calls.
@@ -243,25 +291,35 @@ def dense(arrays):
     return forms
 
 
-def extension(form, rows, columns):
+def extension(form, rows, columns, zero):
     """A, B and C of a dense form at a point: the sum over all places of what is there times the place's weights."""
-    total = (0, 0, 0)
+    total = (zero, zero, zero)
     for (row, column), values in form.items():
         w = weight(row, rows) * weight(column, columns)
         total = tuple((x + y * w) % P for x, y in zip(total, values))
     return total
 
 
-def triples(arrays, forms, rows, columns):
-    """A, B and C of each array, at as many of the first coordinates as it has bits."""
-    return [extension(form, rows[: array.bits[0]], columns[: array.bits[1]]) for array, form in zip(arrays, forms)]
+def numbers_of(values, field):
+    """The numbers of A, B and C, one behind the other."""
+    return tuple(itertools.chain(*map(field.numbers, values)))
 
 
-def hold_point(head, rows, columns):
+def triples(arrays, forms, rows, columns, field=PRIME):
+    """The numbers of A, B and C of each array, at as many of the first coordinates as it has bits."""
+    sides, zero = (field.elements(rows), field.elements(columns)), field.element(0)
+    known = []
+    for array, form in zip(arrays, forms):
+        values = extension(form, *(side[:bits] for side, bits in zip(sides, array.bits)), zero)
+        known.append(numbers_of(values, field))
+    return known
+
+
+def hold_point(head, rows, columns, field=PRIME):
     """Refuses what is no point of this head."""
-    for number, bits, coordinates in zip((21, 22), head, (rows, columns)):
-        if len(coordinates) != bits:
-            raise Refusal(number, len(coordinates))
+    for number, bits, numbers in zip((21, 22), head, (rows, columns)):
+        if len(numbers) != field.size * bits:
+            raise Refusal(number, len(numbers))
     for index, r in enumerate([*rows, *columns]):
         if r >= P:
             raise Refusal(23, index)
@@ -280,15 +338,17 @@ def hold_shapes(head, other):
         raise Refusal(35, 0)
 
 
-def hold_sheet(arrays, sheet):
-    """Refuses a sheet that has no place for each array's A, B and C."""
-    if len(sheet) < 3 * len(arrays):
-        raise Refusal(31, 3 * len(arrays))
+def hold_sheet(arrays, sheet, field=PRIME):
+    """Refuses a sheet that has no place for the numbers of each array's A, B and C."""
+    needed = 3 * field.size * len(arrays)
+    if len(sheet) < needed:
+        raise Refusal(31, needed)
 
 
 def written(known, sheet):
-    """The sheet with each array's A, B and C at its beginning."""
-    return [*itertools.chain(*known), *sheet[3 * len(known) :]]
+    """The sheet with the numbers of each array's A, B and C at its beginning."""
+    numbers = list(itertools.chain(*known))
+    return [*numbers, *sheet[len(numbers) :]]
 
 
 def outcome(answer, sheet):
@@ -301,29 +361,29 @@ def valued(values, known, sheet):
     return outcome(" ".join(map(str, values)), written(known, sheet))
 
 
-def answered(data, hold, sheet, give):
+def answered(data, hold, sheet, give, field=PRIME):
     """The outcome of a call on a key: its first refusal, `hold` being what judges the head behind the key's own rules, or
     the answer and each array's A, B and C that `give` makes of the head and the arrays.
     """
     try:
         head, arrays = read(data)
         hold(head)
-        hold_sheet(arrays, sheet)
+        hold_sheet(arrays, sheet, field)
     except Refusal as refusal:
         return outcome(refused(*refusal.args), sheet)
     return valued(*give(head, arrays), sheet)
 
 
-def evaluate(data, rows, columns, sheet, known=None):
+def evaluate(data, rows, columns, sheet, known=None, field=PRIME):
     """What evaluating a key at a point answers, and the sheet afterwards; `known` is each array's A, B and C where the
     key is too large to unroll.
     """
 
     def give(_, arrays):
-        each = known or triples(arrays, dense(arrays), rows, columns)
+        each = known or triples(arrays, dense(arrays), rows, columns, field)
         return each[-1], each
 
-    return answered(data, lambda head: hold_point(head, rows, columns), sheet, give)
+    return answered(data, lambda head: hold_point(head, rows, columns, field), sheet, give, field)
 
 
 def bits_of(number, count):
@@ -352,13 +412,13 @@ def named(which, judged, *of):
         raise Refusal(*refusal.args, which) from refusal
 
 
-def read_pair(first, second, rows, columns, sheet):
+def read_pair(first, second, rows, columns, sheet, field=PRIME):
     """The arrays of two keys that are compared at a point on a sheet."""
     head, arrays = named("first", read, first)
     other, others = named("second", read, second)
     named("neither", hold_shapes, head, other)
-    named("neither", hold_point, head, rows, columns)
-    named("neither", hold_sheet, max(arrays, others, key=len), sheet)
+    named("neither", hold_point, head, rows, columns, field)
+    named("neither", hold_sheet, max(arrays, others, key=len), sheet, field)
     return arrays, others
 
 
@@ -367,14 +427,14 @@ def verdict(known, others):
     return "same" if known[-1] == others[-1] else "different"
 
 
-def compare(first, second, rows, columns, sheet, known=None):
+def compare(first, second, rows, columns, sheet, known=None, field=PRIME):
     """What comparing two keys at a point answers, and the sheet afterwards; `known` as for evaluate, of each key."""
     try:
-        keys = read_pair(first, second, rows, columns, sheet)
+        keys = read_pair(first, second, rows, columns, sheet, field)
     except Refusal as refusal:
         *cause, which = refusal.args
         return outcome(f"{which} {refused(*cause)}", sheet)
-    one, other = known or [triples(arrays, dense(arrays), rows, columns) for arrays in keys]
+    one, other = known or [triples(arrays, dense(arrays), rows, columns, field) for arrays in keys]
     return outcome(verdict(one, other), written(other, written(one, sheet)))
 
 

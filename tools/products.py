@@ -1,15 +1,16 @@
-"""The cases of crates/products, a test program for what no public call reaches: eq of 004 (1.1.2) on numbers that are no bits,
-and the weight of a number over any of a side's bits, by a table with the weights of limbs or without. Every answer is worked
-out by model.py as the product that 004 prints; what is known in closed form must agree.
+"""The cases of crates/products, a test program for what no public call reaches: eq of 004 (1.1.2) on elements of either field
+that are no bits, and the weight of a number over any of a side's bits, by a table with the weights of limbs or without. Every
+answer is worked out by model.py as the product that 004 prints; what is known in closed form must agree.
 """
 
 import itertools
 import struct
 
 from draw import Draw
-from model import P, TOP, agreed, bits_of, eq, listed, weight
+from model import P, QUADRATIC, TOP, agreed, bits_of, eq, gaussian, listed, weight
+from quadratics import with_zeros
 
-CALLS = {"eq": 1, "factor": 2, "weigh": 3}
+CALLS = {"eq": 1, "factor": 2, "weigh": 3, "eq_quadratic": 4}
 PLACES = (64, 448)
 
 # 1/2, of which eq's factor is 1/2 whatever the other number.
@@ -22,11 +23,13 @@ class Products:
     def __init__(self):
         self.inputs = {}
 
-    def add(self, call, name, answers, lists, number=0, start=0, places=0):
-        """One case, with the numbers of its header in the program's order; a case that is there already is left out."""
+    def add(self, call, name, answers, lists, number=0, start=0, places=0, size=1):
+        """One case, with the numbers of its header in the program's order; a case that is there already is left out. `size` is
+        how many numbers of a list are an element.
+        """
         wanted = "".join(f" {x}" for x in answers)
         text = f"{call} {name} | wanted{wanted} | got".encode()
-        header = struct.pack("<6I", CALLS[call], len(text), len(lists[0]), number, start, places)
+        header = struct.pack("<6I", CALLS[call], len(text), len(lists[0]) // size, number, start, places)
         numbers = list(itertools.chain(*lists))
         self.inputs.setdefault(text + wanted.encode() + b"\n", header + text + struct.pack(f"<{len(numbers)}I", *numbers))
 
@@ -35,6 +38,14 @@ class Products:
         for one, other in ((x, y), (y, x)):
             answer = agreed(wanted, eq(one, other))
             self.add("eq", f"{listed(one)} with {listed(other)}", [answer], (one, other))
+
+    def eq_quadratic(self, x, y, wanted=None):
+        """eq over p² of the elements that two lists of numbers are, likewise."""
+        for one, other in ((x, y), (y, x)):
+            product = gaussian(eq(QUADRATIC.elements(one), QUADRATIC.elements(other)))
+            answer = agreed(wanted, QUADRATIC.numbers(product))
+            name = f"{listed(one)} with {listed(other)}"
+            self.add("eq_quadratic", name, answer, (one, other), size=QUADRATIC.size)
 
     def factor(self, number, start, coordinates, wanted=None):
         """The weights of a number over the bits from `start` up to each, by each table; `wanted` likewise."""
@@ -122,6 +133,31 @@ def first_cases(products, draw):
             products.weigh(number, coordinates)
 
 
+def quadratic_cases(products, draw):
+    """eq over p² of no elements, of one at the edges of the field and of many: any, equal ones, bits with any; and elements
+    whose v is 0, of which it is eq over p.
+    """
+    products.eq_quadratic([], [], (1, 0))
+    edges = ((0, 0), (1, 0), (HALF, 0), (0, 1), (0, P - 1), (P - 1, P - 1), (2, 3))
+    for x, y in itertools.product(edges, repeat=2):
+        products.eq_quadratic(x, y)
+    for u, v in edges:
+        products.eq_quadratic((0, 0), (u, v), ((1 - u) % P, -v % P))
+        products.eq_quadratic((1, 0), (u, v), (u, v))
+        products.eq_quadratic((HALF, 0), (u, v), (HALF, 0))
+    # i·i + (1 - i)(1 - i) is -1 - 2i, and i·(-i) + (1 - i)(1 + i) is 3.
+    products.eq_quadratic((0, 1), (0, 1), (P - 1, P - 2))
+    products.eq_quadratic((0, 1), (0, P - 1), (3, 0))
+    for count in (2, 5, 30):
+        for _ in range(5):
+            x, y, bits = drawn(draw, 2 * count), drawn(draw, 2 * count), bits_of(draw.below(2**count), count)
+            products.eq_quadratic(x, y)
+            products.eq_quadratic(x, x)
+            products.eq_quadratic(with_zeros(bits), y)
+            products.eq_quadratic(drawn_edges(draw, 2 * count), drawn_edges(draw, 2 * count))
+            products.eq_quadratic(with_zeros(x[:count]), with_zeros(y[:count]), (eq(x[:count], y[:count]), 0))
+
+
 def product_cases():
     """All cases, with numbers drawn apart from those of the other programs."""
     products, draw = Products(), Draw()
@@ -129,4 +165,5 @@ def product_cases():
     many_cases(products, draw)
     window_cases(products, draw)
     first_cases(products, draw)
+    quadratic_cases(products, draw)
     return products

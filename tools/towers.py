@@ -7,7 +7,7 @@ chooses. Summed over all places with their weights this is a product: the cell's
 count times 1 - r and its second times r, r being the coordinate of the bit that it added.
 """
 
-from model import P, joined, times, words
+from model import P, PRIME, joined, numbers_of, times, words
 
 
 def shapes(levels):
@@ -41,12 +41,13 @@ def factor(axis, counts, bits, point):
     return counts[0] * (1 - r) + counts[1] * r
 
 
-def tower_values(values, levels, point):
-    """A, B and C of each array of a tower at a point: its row coordinates and its column coordinates."""
-    known = [values]
+def tower_values(values, levels, point, field=PRIME):
+    """The numbers of A, B and C of each array of a tower at a point: those of its row and of its column coordinates."""
+    point = [field.elements(side) for side in point]
+    known = [tuple(map(field.element, values))]
     for bits, (axis, counts) in zip(shapes(levels), levels):
-        known.append(tuple(x * factor(axis, counts, bits, point) % P for x in known[-1]))
-    return known
+        known.append(tuple(factor(axis, counts, bits, point) * x % P for x in known[-1]))
+    return [numbers_of(each, field) for each in known]
 
 
 def drawn_levels(draw, count, most):

@@ -10,6 +10,7 @@ key of any size. The exit status is 0 for every input that is answered.
 """
 
 import argparse
+import operator
 import struct
 import sys
 from dataclasses import dataclass, field
@@ -22,12 +23,13 @@ PLACES_LIMIT = 2**18
 
 
 class Refused(Exception):
-    """A refusal: its number and its place."""
+    """A refusal: its number, its place and, of two keys that are compared, which it is about."""
 
     def __init__(self, number, place):
         super().__init__(f"refused {number} at {place}")
         self.number = number
         self.place = place
+        self.which = "neither"
 
 
 class TooManyPlaces(Exception):
@@ -40,20 +42,56 @@ def require(holds, number, place):
         raise Refused(number, place)
 
 
-# The field.
+# The fields.
 
 PRIME = 2**31 - 1
+
+
+class Field:
+    """A field whose elements are tuples of so many numbers below p: u alone, or u and v of u + v·i with i² = -1."""
+
+    def __init__(self, numbers):
+        self.numbers = numbers
+
+    def embedded(self, number):
+        """The element that a number below p is."""
+        return (number,) + (0,) * (self.numbers - 1)
+
+    def elements(self, numbers):
+        """The elements that a list of numbers is, the numbers of each one behind the other."""
+        return list(zip(*(numbers[part :: self.numbers] for part in range(self.numbers)), strict=True))
+
+    def sum(self, one, other):
+        """The sum of two elements."""
+        return tuple((x + y) % PRIME for x, y in zip(one, other, strict=True))
+
+    def difference(self, one, other):
+        """The first element less the second."""
+        return tuple((x - y) % PRIME for x, y in zip(one, other, strict=True))
+
+    def product(self, one, other):
+        """The product, term by term: those with no i and with i² = -1 go to u, those with one i to v."""
+        product = [0] * self.numbers
+        for i, x in enumerate(one):
+            for j, y in enumerate(other):
+                product[(i + j) % 2] += -x * y if i + j == 2 else x * y
+        return tuple(number % PRIME for number in product)
+
+
+# The field of p elements, and that of p² elements (02, E2).
+F_P, F_P2 = Field(1), Field(2)
 
 
 # Weights.
 
 
-def eq(whole, coordinates):
-    """eq([whole]; coordinates): bit i of the whole number, lowest first, is paired with coordinate i."""
-    product = 1
+def eq(whole, coordinates, over):
+    """eq([whole]; coordinates) over a field: bit i of the whole number, lowest first, is paired with coordinate i."""
+    one = over.embedded(1)
+    product = one
     for i, coordinate in enumerate(coordinates):
         bit = whole >> i & 1
-        product = product * (coordinate if bit == 1 else 1 - coordinate) % PRIME
+        product = over.product(product, coordinate if bit == 1 else over.difference(one, coordinate))
     return product
 
 
@@ -227,23 +265,26 @@ def recursive_matrix(array, earlier):
     return matrix
 
 
-def extension(matrix, rows, columns):
-    """The sum over all rows x and columns y of matrix(x, y)·eq([x]; rows)·eq([y]; columns)."""
-    row_weights = [eq(x, rows) for x in range(2 ** len(rows))]
-    column_weights = [eq(y, columns) for y in range(2 ** len(columns))]
-    total = 0
-    for x, row_weight in enumerate(row_weights):
-        for y, column_weight in enumerate(column_weights):
-            total += matrix[x][y] * row_weight * column_weight
-    return total % PRIME
+def weights(coordinates, over):
+    """eq([x]; coordinates) for every x."""
+    return [eq(x, coordinates, over) for x in range(2 ** len(coordinates))]
 
 
-def judge_point(key, rows, columns):
-    """Refuses with 21, 22 and 23 what is no point of the key."""
-    require(len(rows) == key.row_bits, 21, len(rows))
-    require(len(columns) == key.column_bits, 22, len(columns))
-    for i, coordinate in enumerate(rows + columns):
-        require(coordinate < PRIME, 23, i)
+def extension(matrix, row_weights, column_weights, over):
+    """The sum over all rows x and columns y of matrix(x, y) times their weights, row by row."""
+    total = over.embedded(0)
+    for numbers, weight in zip(matrix, row_weights, strict=True):
+        across = [sum(map(operator.mul, numbers, part)) for part in zip(*column_weights)]
+        total = over.sum(total, over.product(weight, across))
+    return total
+
+
+def judge_point(key, rows, columns, over):
+    """Refuses with 21, 22 and 23, which count numbers, what is no point of the key."""
+    require(len(rows) == over.numbers * key.row_bits, 21, len(rows))
+    require(len(columns) == over.numbers * key.column_bits, 22, len(columns))
+    for i, number in enumerate([*rows, *columns]):
+        require(number < PRIME, 23, i)
 
 
 def judge_places(arrays):
@@ -254,15 +295,53 @@ def judge_places(arrays):
         raise TooManyPlaces(f"the key has {sum(sizes) + called} places; at most {PLACES_LIMIT} are unrolled")
 
 
-def evaluate(key, rows, columns):
-    """The triples A, B, C of all arrays, array i's at the first k rows and the first k' columns of the point."""
-    judge_point(key, rows, columns)
+def evaluate(key, rows, columns, over=F_P):
+    """The numbers of A, B and C of all arrays, array i's at the first k rows and the first k' columns of the point."""
+    judge_point(key, rows, columns, over)
     judge_places(key.arrays)
+    rows, columns = over.elements(rows), over.elements(columns)
+    sides = [(weights(rows[: a.row_bits], over), weights(columns[: a.column_bits], over)) for a in key.arrays]
     answers = []
     for part in PARTS:
-        pairs = zip(key.arrays, dense(key.arrays, part))
-        answers.append([extension(m, rows[: a.row_bits], columns[: a.column_bits]) for a, m in pairs])
-    return list(zip(*answers))
+        pairs = zip(dense(key.arrays, part), sides)
+        answers.append([extension(matrix, *side, over) for matrix, side in pairs])
+    return [a + b + c for a, b, c in zip(*answers)]
+
+
+def laid(triples, sheet):
+    """The sheet with the numbers of all arrays at its beginning. Refuses with 31."""
+    numbers = [number for triple in triples for number in triple]
+    require(len(sheet) >= len(numbers), 31, len(numbers))
+    return numbers + sheet[len(numbers) :]
+
+
+def evaluate_on(key_bytes, rows, columns, sheet, over=F_P):
+    """The last array's numbers and the sheet afterwards. Refuses with 1 to 13, 21, 22, 23 and 31."""
+    triples = evaluate(check(key_bytes), rows, columns, over)
+    return triples[-1], laid(triples, sheet)
+
+
+# Comparing two keys.
+
+
+def check_named(key_bytes, which):
+    """The accepted key that the bytes are; a refusal also has which key it is about."""
+    try:
+        return check(key_bytes)
+    except Refused as refusal:
+        refusal.which = which
+        raise
+
+
+def compare_on(first, second, rows, columns, sheet, over=F_P):
+    """Whether two keys have the same numbers at a point, and the sheet afterwards. Refuses with 1 to 13 for the first key,
+    then for the second, and then with 35, 21, 22, 23, and 31 for the key with more arrays.
+    """
+    one, other = check_named(first, "first"), check_named(second, "second")
+    require((one.row_bits, one.column_bits) == (other.row_bits, other.column_bits), 35, 0)
+    of_first, of_second = (evaluate(key, rows, columns, over) for key in (one, other))
+    laid(max(of_first, of_second, key=len), sheet)
+    return of_first[-1] == of_second[-1], laid(of_second, laid(of_first, sheet))
 
 
 # The keysheet program.

@@ -5,7 +5,8 @@
 //! two, and the last line names the highest. (The archive takes limbs of five where they pay.)
 //!
 //! The reference beside evaluate is one bare chain of as many dependent products as the key has
-//! factors, and beside check a sum over the same bytes.
+//! factors, beside check a sum over the same bytes, and beside evaluate and compare over p² (`eval p²`,
+//! `comp p²`) the archive's own call over p.
 //!
 //! Where `KEYSHEET` names the keysheet program and `EMPTY` a program that does nothing, both are
 //! run from start to end too.
@@ -31,6 +32,7 @@ mod towers;
 
 use std::env;
 
+use independent::field::{Fp, Quadratic};
 use independent::pass;
 use independent::pass::factors::Factors;
 use independent::pass::tables::Tables;
@@ -44,13 +46,17 @@ fn main() {
     assert!(!samples.is_empty(), "no key has such a name");
     for sample in &samples {
         hold_equal(sample);
+        hold_equal_over_p_squared(sample);
     }
     println!("{}", Row::heading());
     let evaluated = print(&samples, timed::evaluate);
     print(&samples, timed::check);
     let compared = print(&samples, timed::compare);
+    let evaluated_quadratic = print(&samples, timed::evaluate_quadratic);
+    let compared_quadratic = print(&samples, timed::compare_quadratic);
     programs::run(&chosen(keys::inputs()));
-    let highest = [evaluated, compared].map(|rows| highest(&rows));
+    let all = [evaluated, compared, evaluated_quadratic, compared_quadratic];
+    let highest = all.map(|rows| highest(&rows));
     println!("highest best: {}", highest.join(", "));
 }
 
@@ -108,9 +114,9 @@ fn hold_equal(sample: &Sample) {
     let [of_archive, of_factors, of_tables] = &mut sheets;
     let got = morgana::evaluate(key, rows, columns, of_archive).expect("the point fits");
     let wanted = Ok([got.a, got.b, got.c]);
-    let answer = pass::evaluate::<Factors>(key, rows, columns, of_factors);
+    let answer = pass::evaluate::<Factors<Fp>>(key, rows, columns, of_factors);
     assert_eq!(answer, wanted);
-    let answer = pass::evaluate::<Tables>(key, rows, columns, of_tables);
+    let answer = pass::evaluate::<Tables<Fp>>(key, rows, columns, of_tables);
     assert_eq!(answer, wanted);
     assert_eq!(of_archive, of_factors);
     assert_eq!(of_archive, of_tables);
@@ -122,9 +128,39 @@ fn hold_equal(sample: &Sample) {
         Compared::Different
     };
     assert_eq!(got.ok(), Some(wanted));
-    let answer = pass::compare::<Factors>(key, other, rows, columns, of_factors);
+    let answer = pass::compare::<Factors<Fp>>(key, other, rows, columns, of_factors);
     assert_eq!(answer, Ok(same));
-    let answer = pass::compare::<Tables>(key, other, rows, columns, of_tables);
+    let answer = pass::compare::<Tables<Fp>>(key, other, rows, columns, of_tables);
+    assert_eq!(answer, Ok(same));
+    assert_eq!(of_archive, of_factors);
+    assert_eq!(of_archive, of_tables);
+}
+
+/// The same over p².
+fn hold_equal_over_p_squared(sample: &Sample) {
+    let Sample {
+        key,
+        other,
+        quadratic_rows: rows,
+        quadratic_columns: columns,
+        ..
+    } = sample;
+    let mut sheets = [sample.sheet(), sample.sheet(), sample.sheet()];
+    let [of_archive, of_factors, of_tables] = &mut sheets;
+    let got = morgana::evaluate_quadratic(key, rows, columns, of_archive).expect("the point fits");
+    let wanted = Ok([got.a, got.b, got.c].map(|element| [element.u, element.v]));
+    let answer = pass::evaluate::<Factors<Quadratic>>(key, rows, columns, of_factors);
+    assert_eq!(answer, wanted);
+    let answer = pass::evaluate::<Tables<Quadratic>>(key, rows, columns, of_tables);
+    assert_eq!(answer, wanted);
+    assert_eq!(of_archive, of_factors);
+    assert_eq!(of_archive, of_tables);
+    let got = morgana::compare_quadratic(key, other, rows, columns, of_archive);
+    let same = got.expect("the keys fit") == Compared::Same;
+    assert_eq!(same, key == other);
+    let answer = pass::compare::<Factors<Quadratic>>(key, other, rows, columns, of_factors);
+    assert_eq!(answer, Ok(same));
+    let answer = pass::compare::<Tables<Quadratic>>(key, other, rows, columns, of_tables);
     assert_eq!(answer, Ok(same));
     assert_eq!(of_archive, of_factors);
     assert_eq!(of_archive, of_tables);

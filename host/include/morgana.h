@@ -14,8 +14,12 @@
  * only: a later version may add fields behind the last one, and moves none. As replies are returned by value, a
  * program is compiled with the header of the archive that it is linked with.
  *
- * The field. p = 2147483647, and a number of the field is 0 to p - 1. A point is n row coordinates and n' column
+ * The fields. p = 2147483647, and a number of the field is 0 to p - 1. A point is n row coordinates and n' column
  * coordinates below p, where n and n' are the row bits and the column bits of the key's head.
+ *
+ * For the calls whose names end in _quadratic a coordinate is an element u + v*i of the field of p*p elements, where
+ * i*i is -1: two numbers below p, u first. So is each A, B and C: an array has six numbers on the sheet, u and v of A,
+ * of B and of C. At a point with every v zero, every u is what the call over p gives, and every v is zero.
  *
  * Refusals.
  *
@@ -35,12 +39,12 @@
  *   12  last array not of the head's shape                          offset of the end
  *   13  bytes after the end                                         offset of the first
  *   Sender of the point
- *   21  row count not n                                             the count received
- *   22  column count not n'                                         likewise
- *   23  coordinate p or more                                        its index, rows first
+ *   21  row count not n (_quadratic: not 2n numbers)                the count received
+ *   22  column count not n' (_quadratic: not 2n' numbers)           likewise
+ *   23  coordinate p or more                                        its index, rows first (_quadratic: the number's)
  *   24  row or column outside the last array                        0 for the row, 1 for the column
  *   Calling program
- *   31  sheet below 3 * arrays                                      the length needed
+ *   31  sheet below 3 * arrays (_quadratic: 6 * arrays)             the length needed
  *   35  shapes differ                                               0
  *
  * Of several refusals the first in the order that each call gives is answered. Row faults precede column faults, and
@@ -79,7 +83,19 @@ typedef struct MorganaEvaluateReply {
     uint32_t c;      /* the last array's C */
 } MorganaEvaluateReply;
 
-/* What morgana_compare answers. */
+/* What morgana_evaluate_quadratic answers. */
+typedef struct MorganaQuadraticReply {
+    uint32_t number; /* the number of the refusal, or 0 */
+    uint64_t place;  /* the place of the refusal, or 0 */
+    uint32_t a_u;    /* the last array's A: u */
+    uint32_t a_v;    /* and v */
+    uint32_t b_u;    /* the last array's B: u */
+    uint32_t b_v;    /* and v */
+    uint32_t c_u;    /* the last array's C: u */
+    uint32_t c_v;    /* and v */
+} MorganaQuadraticReply;
+
+/* What morgana_compare and morgana_compare_quadratic answer. */
 typedef struct MorganaCompareReply {
     uint32_t number; /* the number of the refusal, or 0 */
     uint64_t place;  /* the place of the refusal, or 0 */
@@ -114,6 +130,22 @@ MorganaCompareReply morgana_compare(const uint8_t *first, size_t first_length,
                                     const uint32_t *rows, size_t rows_length,
                                     const uint32_t *columns, size_t columns_length,
                                     uint32_t *sheet, size_t sheet_length);
+
+/* Answers the last array's A, B and C at a point of two numbers a coordinate, and writes every array's six numbers into
+ * the sheet, array i's at 6i; places from 6 * arrays on stay. Refuses as morgana_check does, then with 21, 22, 23, 31. */
+MorganaQuadraticReply morgana_evaluate_quadratic(const uint8_t *key, size_t key_length,
+                                                 const uint32_t *rows, size_t rows_length,
+                                                 const uint32_t *columns, size_t columns_length,
+                                                 uint32_t *sheet, size_t sheet_length);
+
+/* Answers "same" if the six numbers that morgana_evaluate_quadratic answers for the first key at a point equal those for
+ * the second, else "different"; the sheet is then as after evaluating the first key and then the second. Refuses as
+ * morgana_compare does. */
+MorganaCompareReply morgana_compare_quadratic(const uint8_t *first, size_t first_length,
+                                              const uint8_t *second, size_t second_length,
+                                              const uint32_t *rows, size_t rows_length,
+                                              const uint32_t *columns, size_t columns_length,
+                                              uint32_t *sheet, size_t sheet_length);
 
 #ifdef __cplusplus
 }

@@ -26,6 +26,26 @@ pub struct Values {
     pub c: u32,
 }
 
+/// An element u + v·i of the field of p² elements, where i² = -1.
+#[derive(Debug, Clone, Copy, PartialEq, Eq)]
+pub struct Quadratic {
+    /// The number u.
+    pub u: u32,
+    /// The number v.
+    pub v: u32,
+}
+
+/// The values of the three matrices at a point of two numbers a coordinate.
+#[derive(Debug, Clone, Copy, PartialEq, Eq)]
+pub struct QuadraticValues {
+    /// The value of A.
+    pub a: Quadratic,
+    /// The value of B.
+    pub b: Quadratic,
+    /// The value of C.
+    pub c: Quadratic,
+}
+
 /// What compare answers about two keys at a point.
 #[derive(Debug, Clone, Copy, PartialEq, Eq)]
 pub enum Compared {

@@ -1,7 +1,7 @@
-//! The four calls of the library as safe functions: all unsafe code of the library and of keytool stands here.
+//! The calls of the library as safe functions: all unsafe code of the library and of keytool stands here.
 #![allow(unsafe_code)]
 
-use crate::answers::{Compared, Counts, Values};
+use crate::answers::{Compared, Counts, Quadratic, QuadraticValues, Values};
 use crate::raw;
 use crate::refusal::{CompareRefusal, Refusal, Which};
 
@@ -71,7 +71,7 @@ pub fn compare(
 ) -> Result<Compared, CompareRefusal> {
     // SAFETY: each pointer and length are of one slice, lent until the call returns, and the sheet, lent for
     // writing, overlaps no other.
-    let reply = unsafe {
+    compared(unsafe {
         raw::morgana_compare(
             first.as_ptr(),
             first.len(),
@@ -84,7 +84,71 @@ pub fn compare(
             sheet.as_mut_ptr(),
             sheet.len(),
         )
+    })
+}
+
+/// Answers the last array's A, B and C at a point whose coordinates u + v·i are two numbers each, u first, and writes
+/// array i's six numbers into the sheet at 6i; or refuses as evaluate does, with 21 and 22 where there are not 2n and
+/// 2n' numbers, and with 23 at the index of a number.
+pub fn evaluate_quadratic(
+    key: &[u8],
+    rows: &[u32],
+    columns: &[u32],
+    sheet: &mut [u32],
+) -> Result<QuadraticValues, Refusal> {
+    // SAFETY: each pointer and length are of one slice, lent until the call returns, and the sheet, lent for
+    // writing, overlaps no other.
+    let reply = unsafe {
+        raw::morgana_evaluate_quadratic(
+            key.as_ptr(),
+            key.len(),
+            rows.as_ptr(),
+            rows.len(),
+            columns.as_ptr(),
+            columns.len(),
+            sheet.as_mut_ptr(),
+            sheet.len(),
+        )
     };
+    refused(reply.number, reply.place)?;
+    let element = |u, v| Quadratic { u, v };
+    Ok(QuadraticValues {
+        a: element(reply.a_u, reply.a_v),
+        b: element(reply.b_u, reply.b_v),
+        c: element(reply.c_u, reply.c_v),
+    })
+}
+
+/// Answers whether two keys of one shape have the same A, B and C at a point whose coordinates are two numbers each,
+/// the sheet as after evaluating the first and then the second there; or refuses as compare does, counting numbers as
+/// evaluate_quadratic does.
+pub fn compare_quadratic(
+    first: &[u8],
+    second: &[u8],
+    rows: &[u32],
+    columns: &[u32],
+    sheet: &mut [u32],
+) -> Result<Compared, CompareRefusal> {
+    // SAFETY: each pointer and length are of one slice, lent until the call returns, and the sheet, lent for
+    // writing, overlaps no other.
+    compared(unsafe {
+        raw::morgana_compare_quadratic(
+            first.as_ptr(),
+            first.len(),
+            second.as_ptr(),
+            second.len(),
+            rows.as_ptr(),
+            rows.len(),
+            columns.as_ptr(),
+            columns.len(),
+            sheet.as_mut_ptr(),
+            sheet.len(),
+        )
+    })
+}
+
+/// What a reply says of two keys, or its refusal.
+fn compared(reply: raw::CompareReply) -> Result<Compared, CompareRefusal> {
     let which = match reply.key {
         1 => Which::First,
         2 => Which::Second,

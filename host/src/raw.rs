@@ -42,7 +42,29 @@ pub struct EvaluateReply {
     pub c: u32,
 }
 
-/// What `morgana_compare` answers.
+/// What `morgana_evaluate_quadratic` answers.
+#[repr(C)]
+#[derive(Debug, Clone, Copy, PartialEq, Eq)]
+pub struct QuadraticReply {
+    /// The number of the refusal; 0 where nothing is refused.
+    pub number: u32,
+    /// The place of the refusal; 0 where nothing is refused.
+    pub place: u64,
+    /// The u of the last array's A.
+    pub a_u: u32,
+    /// The v of the last array's A.
+    pub a_v: u32,
+    /// The u of the last array's B.
+    pub b_u: u32,
+    /// The v of the last array's B.
+    pub b_v: u32,
+    /// The u of the last array's C.
+    pub c_u: u32,
+    /// The v of the last array's C.
+    pub c_v: u32,
+}
+
+/// What `morgana_compare` and `morgana_compare_quadratic` answer.
 #[repr(C)]
 #[derive(Debug, Clone, Copy, PartialEq, Eq)]
 pub struct CompareReply {
@@ -74,6 +96,18 @@ const _: () = {
     assert!(offset_of!(EvaluateReply, a) == 16);
     assert!(offset_of!(EvaluateReply, b) == 20);
     assert!(offset_of!(EvaluateReply, c) == 24);
+};
+
+const _: () = {
+    assert!(size_of::<QuadraticReply>() == 40);
+    assert!(offset_of!(QuadraticReply, number) == 0);
+    assert!(offset_of!(QuadraticReply, place) == 8);
+    assert!(offset_of!(QuadraticReply, a_u) == 16);
+    assert!(offset_of!(QuadraticReply, a_v) == 20);
+    assert!(offset_of!(QuadraticReply, b_u) == 24);
+    assert!(offset_of!(QuadraticReply, b_v) == 28);
+    assert!(offset_of!(QuadraticReply, c_u) == 32);
+    assert!(offset_of!(QuadraticReply, c_v) == 36);
 };
 
 const _: () = {
@@ -112,6 +146,32 @@ extern "C" {
 
     /// Compares two keys at a point.
     pub fn morgana_compare(
+        first: *const u8,
+        first_length: usize,
+        second: *const u8,
+        second_length: usize,
+        rows: *const u32,
+        rows_length: usize,
+        columns: *const u32,
+        columns_length: usize,
+        sheet: *mut u32,
+        sheet_length: usize,
+    ) -> CompareReply;
+
+    /// Evaluates a key at a point of two numbers a coordinate and writes the six numbers of every array into the sheet.
+    pub fn morgana_evaluate_quadratic(
+        key: *const u8,
+        key_length: usize,
+        rows: *const u32,
+        rows_length: usize,
+        columns: *const u32,
+        columns_length: usize,
+        sheet: *mut u32,
+        sheet_length: usize,
+    ) -> QuadraticReply;
+
+    /// Compares two keys at a point of two numbers a coordinate.
+    pub fn morgana_compare_quadratic(
         first: *const u8,
         first_length: usize,
         second: *const u8,

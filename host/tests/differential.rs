@@ -11,14 +11,16 @@ mod lent;
 #[path = "differential/held.rs"]
 mod held;
 
+use archive::Served;
 use cases::{outcomes, run};
 use generator::damage::{damaged, mostly_damaged};
-use generator::inputs::{address, faulty_point, point, sheet, short_sheet, Point};
+use generator::inputs::{address, sheet, short_sheet, Drawn, Point};
 use generator::keys::any;
 use generator::path::{end_of, path};
 use generator::random::Random;
 use generator::variants::{arrays, second, shape};
 use held::{cell_case, check_case, compare_case, evaluate_case};
+use independent::field::{Field, Fp, Quadratic};
 use independent::record::{bytes, Record};
 
 /// Check: the counts or the refusal, on whole and damaged keys.
@@ -34,21 +36,31 @@ fn check_agrees() {
 /// Evaluate: the last array's values or the refusal, and the sheet.
 #[test]
 fn evaluate_agrees() {
+    evaluate_agrees_over::<Fp>();
+}
+
+/// Evaluate over p².
+#[test]
+fn evaluate_quadratic_agrees() {
+    evaluate_agrees_over::<Quadratic>();
+}
+
+fn evaluate_agrees_over<F: Served + Drawn>() {
     let numbers = [
         ("refused", 1..=13),
         ("refused", 21..=23),
         ("refused", 31..=31),
     ];
     run(
-        "evaluate",
+        &format!("evaluate{}", F::SUFFIX),
         20_000,
         &outcomes(&["accepted", "zero"], &numbers),
         |random| {
             let records = any(random);
             let key = mostly_whole(random, &records);
-            let point = mostly_fitting_point(random, shape(&records));
-            let sheet = mostly_long_sheet(random, arrays(&records));
-            evaluate_case(random, &key, &point, &sheet)
+            let point = mostly_fitting_point::<F>(random, shape(&records));
+            let sheet = mostly_long_sheet::<F>(random, arrays(&records));
+            evaluate_case::<F>(random, &key, &point, &sheet)
         },
     );
 }
@@ -69,7 +81,7 @@ fn cell_agrees() {
             let records = any(random);
             let key = mostly_whole(random, &records);
             let (row, column) = mostly_filled_place(random, &records);
-            let sheet = mostly_long_sheet(random, arrays(&records));
+            let sheet = mostly_long_sheet::<Fp>(random, arrays(&records));
             cell_case(random, &key, row, column, &sheet)
         },
     );
@@ -78,6 +90,16 @@ fn cell_agrees() {
 /// Compare: same, different or the refusal and the key it names, and the sheet.
 #[test]
 fn compare_agrees() {
+    compare_agrees_over::<Fp>();
+}
+
+/// Compare over p².
+#[test]
+fn compare_quadratic_agrees() {
+    compare_agrees_over::<Quadratic>();
+}
+
+fn compare_agrees_over<F: Served + Drawn>() {
     let numbers = [
         ("first", 1..=13),
         ("second", 1..=13),
@@ -86,22 +108,22 @@ fn compare_agrees() {
         ("neither", 31..=31),
     ];
     run(
-        "compare",
+        &format!("compare{}", F::SUFFIX),
         25_000,
         &outcomes(&["same", "same at zero", "different"], &numbers),
         |random| {
             let first = any(random);
             let second = second(random, &first);
             let keys = [mostly_whole(random, &first), mostly_whole(random, &second)];
-            let point = mostly_fitting_point(random, shape(&first));
+            let point = mostly_fitting_point::<F>(random, shape(&first));
             let arrays = [arrays(&first), arrays(&second)];
             let sheet = if random.chance(6) {
                 // Long enough for one of the keys at most.
-                sheet(random, arrays[0].min(arrays[1]))
+                sheet::<F>(random, arrays[0].min(arrays[1]))
             } else {
-                mostly_long_sheet(random, arrays[0].max(arrays[1]))
+                mostly_long_sheet::<F>(random, arrays[0].max(arrays[1]))
             };
-            compare_case(random, &keys, &point, &sheet)
+            compare_case::<F>(random, &keys, &point, &sheet)
         },
     );
 }
@@ -116,11 +138,11 @@ fn mostly_whole(random: &mut Random, records: &[Record]) -> Vec<u8> {
 }
 
 /// A point, of five points one that does not fit.
-fn mostly_fitting_point(random: &mut Random, (rows, columns): (usize, usize)) -> Point {
+fn mostly_fitting_point<F: Drawn>(random: &mut Random, (rows, columns): (usize, usize)) -> Point {
     if random.chance(5) {
-        faulty_point(random, rows, columns)
+        F::faulty_point(random, rows, columns)
     } else {
-        point(random, rows, columns)
+        F::point(random, rows, columns)
     }
 }
 
@@ -140,10 +162,10 @@ fn mostly_filled_place(random: &mut Random, records: &[Record]) -> (u32, u32) {
 }
 
 /// A sheet, of eight sheets one too short.
-fn mostly_long_sheet(random: &mut Random, arrays: usize) -> Vec<u32> {
+fn mostly_long_sheet<F: Field>(random: &mut Random, arrays: usize) -> Vec<u32> {
     if random.chance(8) {
-        short_sheet(random, arrays)
+        short_sheet::<F>(random, arrays)
     } else {
-        sheet(random, arrays)
+        sheet::<F>(random, arrays)
     }
 }

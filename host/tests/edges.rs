@@ -14,6 +14,8 @@ mod fields;
 mod full;
 #[path = "edges/inputs.rs"]
 mod inputs;
+#[path = "edges/quadratics.rs"]
+mod quadratics;
 #[path = "edges/records.rs"]
 mod records;
 #[path = "edges/slices.rs"]

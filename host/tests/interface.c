@@ -23,6 +23,16 @@ LAYOUT(MorganaEvaluateReply, a, 16);
 LAYOUT(MorganaEvaluateReply, b, 20);
 LAYOUT(MorganaEvaluateReply, c, 24);
 
+_Static_assert(sizeof(MorganaQuadraticReply) == 40, "size of MorganaQuadraticReply");
+LAYOUT(MorganaQuadraticReply, number, 0);
+LAYOUT(MorganaQuadraticReply, place, 8);
+LAYOUT(MorganaQuadraticReply, a_u, 16);
+LAYOUT(MorganaQuadraticReply, a_v, 20);
+LAYOUT(MorganaQuadraticReply, b_u, 24);
+LAYOUT(MorganaQuadraticReply, b_v, 28);
+LAYOUT(MorganaQuadraticReply, c_u, 32);
+LAYOUT(MorganaQuadraticReply, c_v, 36);
+
 _Static_assert(sizeof(MorganaCompareReply) == 24, "size of MorganaCompareReply");
 LAYOUT(MorganaCompareReply, number, 0);
 LAYOUT(MorganaCompareReply, place, 8);
@@ -62,6 +72,18 @@ static void evaluated(int line, MorganaEvaluateReply got, MorganaEvaluateReply w
     want(line, "c", wanted.c, got.c);
 }
 
+static void quadratic(int line, MorganaQuadraticReply got, MorganaQuadraticReply wanted)
+{
+    want(line, "number", wanted.number, got.number);
+    want(line, "place", wanted.place, got.place);
+    want(line, "a_u", wanted.a_u, got.a_u);
+    want(line, "a_v", wanted.a_v, got.a_v);
+    want(line, "b_u", wanted.b_u, got.b_u);
+    want(line, "b_v", wanted.b_v, got.b_v);
+    want(line, "c_u", wanted.c_u, got.c_u);
+    want(line, "c_v", wanted.c_v, got.c_v);
+}
+
 static void compared(int line, MorganaCompareReply got, MorganaCompareReply wanted)
 {
     want(line, "number", wanted.number, got.number);
@@ -71,7 +93,7 @@ static void compared(int line, MorganaCompareReply got, MorganaCompareReply want
 }
 
 /* The lent sheet: PLACES numbers between guard words. */
-enum { GUARD = 4, PLACES = 8 };
+enum { GUARD = 4, PLACES = 14 };
 static uint32_t lent[GUARD + PLACES + GUARD];
 static uint32_t *const sheet = lent + GUARD;
 
@@ -100,6 +122,7 @@ static void written(int line, size_t count, const uint32_t *numbers)
 
 #define CHECK(key, length, ...) checked(__LINE__, morgana_check(key, length), (MorganaCheckReply){__VA_ARGS__})
 #define EVALUATED(call, ...) (fresh(), evaluated(__LINE__, call, (MorganaEvaluateReply){__VA_ARGS__}))
+#define QUADRATIC(call, ...) (fresh(), quadratic(__LINE__, call, (MorganaQuadraticReply){__VA_ARGS__}))
 #define COMPARED(call, ...) (fresh(), compared(__LINE__, call, (MorganaCompareReply){__VA_ARGS__}))
 #define SHEET(...) written(__LINE__, sizeof(uint32_t[]){__VA_ARGS__} / sizeof(uint32_t), (uint32_t[]){__VA_ARGS__})
 #define UNTOUCHED() written(__LINE__, 0, NULL)
@@ -122,6 +145,10 @@ static const uint8_t single[] = {1, 0, 0, 2, 0, 0, 4, 0, 0, 0, 0, 0, 0, 0, 0, 1,
 static const uint8_t unknown[] = {7};
 
 static const uint32_t three[] = {3}, four[] = {4, 4}, prime[] = {MORGANA_P};
+
+/* The coordinates i and -1 - i, 3 and 4 with v zero, and one whose v is p. */
+static const uint32_t imaginary[] = {0, 1, 2}, greatest[] = {MORGANA_P - 1, MORGANA_P - 1};
+static const uint32_t three_zero[] = {3, 0}, four_zero[] = {4, 0}, v_prime[] = {3, MORGANA_P};
 
 static void check_calls(void)
 {
@@ -210,12 +237,74 @@ static void compare_calls(void)
     UNTOUCHED();
 }
 
+static void evaluate_quadratic_calls(void)
+{
+#define EVALUATE(key, key_length, rows, rows_length, columns, columns_length, length, ...) \
+    QUADRATIC(morgana_evaluate_quadratic(key, key_length, rows, rows_length, columns, columns_length, sheet, length), \
+              __VA_ARGS__)
+    /* 5 and 7 times -1 - i, and both times 2 * (1 - i): -20 and -28. */
+    EVALUATE(sample, LENGTH, imaginary, 2, greatest, 2, PLACES, 0, 0, 2147483627, 0, 2147483619, 0, 0, 0);
+    SHEET(2147483642, 2147483642, 2147483640, 2147483640, 0, 0, 2147483627, 0, 2147483619, 0, 0, 0);
+    EVALUATE(sample, LENGTH, three_zero, 2, four_zero, 2, 12, 0, 0, 2147483567, 0, 2147483535, 0, 0, 0);
+    SHEET(20, 0, 28, 0, 0, 0, 2147483567, 0, 2147483535, 0, 0, 0);
+    EVALUATE(single, sizeof single, NULL, 0, NULL, 0, PLACES, 0, 0, 1, 0, 2, 0, 3, 0);
+    SHEET(1, 0, 2, 0, 3, 0);
+    QUADRATIC(morgana_evaluate_quadratic(NULL, 0, NULL, 0, NULL, 0, NULL, 0), 2, 0, 0, 0, 0, 0, 0, 0);
+    EVALUATE(unknown, 1, prime, 1, four, 1, 0, 3, 0, 0, 0, 0, 0, 0, 0);
+    UNTOUCHED();
+    EVALUATE(sample, LENGTH, prime, 1, four, 1, 0, 21, 1, 0, 0, 0, 0, 0, 0);
+    UNTOUCHED();
+    EVALUATE(sample, LENGTH, imaginary, 3, four, 1, 0, 21, 3, 0, 0, 0, 0, 0, 0);
+    UNTOUCHED();
+    EVALUATE(sample, LENGTH, v_prime, 2, four, 1, 0, 22, 1, 0, 0, 0, 0, 0, 0);
+    UNTOUCHED();
+    EVALUATE(sample, LENGTH, v_prime, 2, v_prime, 2, 0, 23, 1, 0, 0, 0, 0, 0, 0);
+    UNTOUCHED();
+    EVALUATE(sample, LENGTH, imaginary, 2, v_prime, 2, PLACES, 23, 3, 0, 0, 0, 0, 0, 0);
+    UNTOUCHED();
+    EVALUATE(sample, LENGTH, imaginary, 2, greatest, 2, 11, 31, 12, 0, 0, 0, 0, 0, 0);
+    UNTOUCHED();
+    QUADRATIC(morgana_evaluate_quadratic(sample, LENGTH, imaginary, 2, greatest, 2, NULL, 0), 31, 12, 0, 0, 0, 0, 0, 0);
+}
+
+static void compare_quadratic_calls(void)
+{
+    uint8_t other[LENGTH];
+    memcpy(other, sample, LENGTH);
+    other[15] = 6;
+#define COMPARE_QUADRATIC(first, first_length, second, second_length, rows, rows_length, columns, columns_length, length, ...) \
+    COMPARED(morgana_compare_quadratic(first, first_length, second, second_length, rows, rows_length, columns, \
+                                       columns_length, sheet, length), __VA_ARGS__)
+    COMPARE_QUADRATIC(sample, LENGTH, sample, LENGTH, imaginary, 2, greatest, 2, PLACES, 0, 0, 0, 1);
+    SHEET(2147483642, 2147483642, 2147483640, 2147483640, 0, 0, 2147483627, 0, 2147483619, 0, 0, 0);
+    COMPARE_QUADRATIC(sample, LENGTH, other, LENGTH, imaginary, 2, greatest, 2, 12, 0, 0, 0, 0);
+    SHEET(2147483641, 2147483641, 2147483640, 2147483640, 0, 0, 2147483623, 0, 2147483619, 0, 0, 0);
+    COMPARE_QUADRATIC(sample, LENGTH, empty, sizeof empty, imaginary, 2, greatest, 2, PLACES, 0, 0, 0, 0);
+    SHEET(0, 0, 0, 0, 0, 0, 2147483627, 0, 2147483619, 0, 0, 0);
+    COMPARE_QUADRATIC(unknown, 1, NULL, 0, NULL, 0, NULL, 0, 0, 3, 0, 1, 0);
+    UNTOUCHED();
+    COMPARE_QUADRATIC(sample, LENGTH, sample, 52, NULL, 0, NULL, 0, 0, 2, 52, 2, 0);
+    UNTOUCHED();
+    COMPARE_QUADRATIC(sample, LENGTH, single, sizeof single, NULL, 0, NULL, 0, 0, 35, 0, 0, 0);
+    UNTOUCHED();
+    COMPARE_QUADRATIC(sample, LENGTH, empty, sizeof empty, three, 1, NULL, 0, 0, 21, 1, 0, 0);
+    UNTOUCHED();
+    COMPARE_QUADRATIC(sample, LENGTH, empty, sizeof empty, v_prime, 2, NULL, 0, 0, 22, 0, 0, 0);
+    UNTOUCHED();
+    COMPARE_QUADRATIC(sample, LENGTH, empty, sizeof empty, imaginary, 2, v_prime, 2, 0, 23, 3, 0, 0);
+    UNTOUCHED();
+    COMPARE_QUADRATIC(empty, sizeof empty, sample, LENGTH, imaginary, 2, greatest, 2, 11, 31, 12, 0, 0);
+    UNTOUCHED();
+}
+
 int main(void)
 {
     check_calls();
     evaluate_calls();
     cell_calls();
     compare_calls();
+    evaluate_quadratic_calls();
+    compare_quadratic_calls();
     if (faults > 0)
         return EXIT_FAILURE;
     printf("interface: %u numbers are as wanted\n", held);

@@ -1,7 +1,8 @@
 //! The safe functions give each field of the library's replies its name.
 
-use morgana::{cell, check, compare, evaluate};
-use morgana::{CompareRefusal, Compared, Counts, Refusal, Values, Which, P};
+use morgana::{cell, check, compare, compare_quadratic, evaluate, evaluate_quadratic};
+use morgana::{CompareRefusal, Compared, Counts, Quadratic, QuadraticValues, Refusal, Values};
+use morgana::{Which, P};
 
 /// The key of the keysheet example.
 const SAMPLE: [u8; 53] = [
@@ -58,6 +59,57 @@ fn compare_answers_and_leaves_the_second_key_over_the_first() {
     let different = compare(&SAMPLE, &EMPTY, &[3], &[4], &mut sheet);
     assert_eq!(different, Ok(Compared::Different));
     assert_eq!(sheet, [0, 0, 0, 2147483567, 2147483535, 0, 107, 108]);
+}
+
+#[test]
+fn both_parts_have_their_names() {
+    let mut sheet = [9; 13];
+    let evaluated = evaluate_quadratic(&SAMPLE, &[3, 1], &[4, 2], &mut sheet);
+    // 2·(4 + 2i)·(1 - 3 - i) is -12 - 16i.
+    let element = |u, v| Quadratic { u, v };
+    let values = QuadraticValues {
+        a: element(P - 60, P - 80),
+        b: element(P - 84, P - 112),
+        c: element(0, 0),
+    };
+    assert_eq!(evaluated, Ok(values));
+    assert_eq!(sheet[..6], [20, 10, 28, 14, 0, 0]);
+    assert_eq!(sheet[6..], [P - 60, P - 80, P - 84, P - 112, 0, 0, 9]);
+    let same = compare_quadratic(&SAMPLE, &SAMPLE, &[3, 1], &[4, 2], &mut sheet);
+    assert_eq!(same, Ok(Compared::Same));
+    let different = compare_quadratic(&SAMPLE, &EMPTY, &[3, 1], &[4, 2], &mut sheet);
+    assert_eq!(different, Ok(Compared::Different));
+    assert_eq!(sheet[..6], [0; 6]);
+}
+
+#[test]
+fn a_refused_call_over_both_parts_leaves_the_sheet() {
+    let mut sheet = [9; 12];
+    for (rows, columns, length, wanted) in [
+        (&[3][..], &[4, 2][..], 12, refusal(21, 1)),
+        (&[3, 1], &[4, 2, 5, 6], 12, refusal(22, 4)),
+        (&[3, P], &[4, P], 12, refusal(23, 1)),
+        (&[3, 1], &[4, 2], 11, refusal(31, 12)),
+    ] {
+        let sheet = &mut sheet[..length];
+        let answer = evaluate_quadratic(&SAMPLE, rows, columns, sheet);
+        assert_eq!(answer, Err(wanted));
+        let neither = Err(CompareRefusal {
+            which: Which::Neither,
+            refusal: wanted,
+        });
+        let answer = compare_quadratic(&SAMPLE, &EMPTY, rows, columns, sheet);
+        assert_eq!(answer, neither);
+    }
+    for (first, second, which) in [
+        (&SAMPLE[..52], &SAMPLE[..], Which::First),
+        (&SAMPLE, &SAMPLE[..52], Which::Second),
+    ] {
+        let answer = compare_quadratic(first, second, &[], &[], &mut sheet);
+        let refusal = refusal(2, 52);
+        assert_eq!(answer, Err(CompareRefusal { which, refusal }));
+    }
+    assert_eq!(sheet, [9; 12]);
 }
 
 #[test]

@@ -8,34 +8,48 @@ mod lent;
 
 use cases::{compare_outcome, outcome, outcomes, run, Case};
 use generator::damage::mostly_damaged;
-use generator::inputs::{faulty_point, point, sheet, short_sheet};
+use generator::inputs::{point, sheet, short_sheet, Drawn};
 use generator::keys::{any, small, wide};
+use generator::random::Random;
 use generator::variants::{arrays, second, shape};
-use independent::calls::{self, pass_values};
-use independent::dense::{extension, extension_of_places, unroll, unroll_places};
-use independent::key::read;
+use independent::calls::{self, matrix_values, pass_values, place_values};
+use independent::dense::unroll_places;
+use independent::field::{elements, Field, Fp, Quadratic};
+use independent::key::{read, Key};
 use independent::pass;
 use independent::pass::factors::Factors;
 use independent::pass::tables::Tables;
-use independent::record::bytes;
+use independent::pass::Lazy;
+use independent::record::{bytes, Record};
+
+/// A field that the pass is tried over.
+trait Passed: Lazy + Drawn {
+    /// The field's name.
+    const NAME: &'static str;
+}
+
+impl Passed for Fp {
+    const NAME: &'static str = "p";
+}
+
+impl Passed for Quadratic {
+    const NAME: &'static str = "p²";
+}
 
 /// On small keys the pass gives every array's extension, the sum over all rows and columns.
 #[test]
 fn pass_gives_the_extensions_of_whole_matrices() {
-    run("pass", 3_000, &outcomes(&["held"], &[]), |random| {
-        let bytes = bytes(&small(random));
-        let key = read(&bytes).expect("a drawn key is whole");
-        let (rows, columns) = point(random, key.rows as usize, key.columns as usize);
-        let mut case = Case::new(&[&bytes], format!("{rows:?} {columns:?}"), "held".into());
-        let wanted: Vec<[u32; 3]> = unroll(&key)
-            .iter()
-            .map(|matrix| extension(matrix, &rows, &columns))
-            .collect();
-        let got = pass_values::<Factors>(&bytes, &key, &rows, &columns);
-        case.hold("by factors", &got, &wanted);
-        let got = pass_values::<Tables>(&bytes, &key, &rows, &columns);
-        case.hold("by tables", &got, &wanted);
-        case
+    pass_gives_matrices::<Fp>();
+    pass_gives_matrices::<Quadratic>();
+}
+
+fn pass_gives_matrices<F: Passed>() {
+    let name = format!("pass over {}", F::NAME);
+    run(&name, 3_000, &outcomes(&["held"], &[]), |random| {
+        let records = small(random);
+        pass_case::<F>(random, &records, |key, rows, columns| {
+            Some(matrix_values(key, rows, columns))
+        })
     });
 }
 
@@ -43,32 +57,93 @@ fn pass_gives_the_extensions_of_whole_matrices() {
 /// something.
 #[test]
 fn pass_gives_the_extensions_of_places() {
-    run("places", 3_000, &outcomes(&["held"], &[]), |random| {
+    pass_gives_places::<Fp>();
+    pass_gives_places::<Quadratic>();
+}
+
+fn pass_gives_places<F: Passed>() {
+    let name = format!("places over {}", F::NAME);
+    run(&name, 3_000, &outcomes(&["held"], &[]), |random| {
         let records = if random.chance(2) {
             wide(random)
         } else {
             small(random)
         };
+        pass_case::<F>(random, &records, |key, rows, columns| {
+            // A key with too many places is held by the other tests alone.
+            let unrolled = unroll_places(key, 2_000)?;
+            Some(place_values(key, &unrolled, rows, columns))
+        })
+    });
+}
+
+/// One case of the pass, by factors and by tables, on a key at a point: every array's values, where they
+/// are known.
+fn pass_case<F: Passed>(
+    random: &mut Random,
+    records: &[Record],
+    known: impl Fn(&Key, &[u32], &[u32]) -> Option<Vec<[F; 3]>>,
+) -> Case {
+    let bytes = bytes(records);
+    let key = read(&bytes).expect("a drawn key is whole");
+    let (rows, columns) = F::point(random, key.rows as usize, key.columns as usize);
+    let mut case = Case::new(&[&bytes], format!("{rows:?} {columns:?}"), "held".into());
+    if let Some(wanted) = known(&key, &rows, &columns) {
+        let got = pass_values::<Factors<F>>(&bytes, &key, &rows, &columns);
+        case.hold("by factors", &got, &wanted);
+        let got = pass_values::<Tables<F>>(&bytes, &key, &rows, &columns);
+        case.hold("by tables", &got, &wanted);
+    }
+    case
+}
+
+/// Where every v is 0, the values over p² are those over p as u, and v is 0.
+#[test]
+fn points_of_p_in_p_squared() {
+    run("v zero", 3_000, &outcomes(&["held"], &[]), |random| {
+        let records = any(random);
         let bytes = bytes(&records);
         let key = read(&bytes).expect("a drawn key is whole");
         let (rows, columns) = point(random, key.rows as usize, key.columns as usize);
         let mut case = Case::new(&[&bytes], format!("{rows:?} {columns:?}"), "held".into());
-        // A key with too many places is held by the other tests alone.
-        let Some(unrolled) = unroll_places(&key, 2_000) else {
-            return case;
-        };
-        let wanted = unrolled.iter().zip(&key.arrays).map(|(places, array)| {
-            let rows = &rows[..array.row_bits as usize];
-            let columns = &columns[..array.column_bits as usize];
-            extension_of_places(places, rows, columns)
-        });
-        let wanted: Vec<[u32; 3]> = wanted.collect();
-        let got = pass_values::<Factors>(&bytes, &key, &rows, &columns);
+        let wanted: Vec<[Fp; 3]> = calls::values(&bytes, &key, &rows, &columns);
+        let wanted: Vec<[Quadratic; 3]> = wanted
+            .iter()
+            .map(|triple| triple.map(Quadratic::of_value))
+            .collect();
+        let [rows, columns] = [rows, columns].map(|side| with_zeros(&side));
+        let got: Vec<[Quadratic; 3]> = calls::values(&bytes, &key, &rows, &columns);
+        case.hold("plain", &got, &wanted);
+        let got = pass_values::<Factors<Quadratic>>(&bytes, &key, &rows, &columns);
         case.hold("by factors", &got, &wanted);
-        let got = pass_values::<Tables>(&bytes, &key, &rows, &columns);
+        let got = pass_values::<Tables<Quadratic>>(&bytes, &key, &rows, &columns);
         case.hold("by tables", &got, &wanted);
         case
     });
+}
+
+/// The numbers of coordinates whose u are these, and whose v are 0.
+fn with_zeros(coordinates: &[u32]) -> Vec<u32> {
+    coordinates.iter().flat_map(|&u| [u, 0]).collect()
+}
+
+/// i² = -1, and an element times its conjugate is a number, its norm, which is 0 for 0 alone: every other has an inverse.
+#[test]
+fn field_of_p_squared() {
+    let p = independent::field::P;
+    assert_eq!([0, 1].times([0, 1]), [p - 1, 0]);
+    assert_eq!([p - 1, p - 1].times([p - 1, p - 1]), [0, 2]);
+    assert_eq!([p - 1; 2].plus([p - 1; 2]), [p - 2; 2]);
+    assert_eq!([0, 0].minus([p - 1, 1]), [1, p - 1]);
+    assert_eq!([3, 4].times([5, 6]), [p - 9, 38]);
+    assert_eq!(elements::<Quadratic>(&[1, 2, 3, 4]), [[1, 2], [3, 4]]);
+    let mut random = Random::of_case(7, 0);
+    for _ in 0..1_000 {
+        let [u, v] = [(); 2].map(|()| random.number() % p);
+        let [norm, none] = [u, v].times([u, (p - v) % p]);
+        assert_eq!(none, 0);
+        assert_eq!(norm == 0, [u, v] == [0, 0]);
+    }
 }
 
 /// The check written for speed answers as the plain one.
@@ -87,6 +162,11 @@ fn fast_check_agrees() {
 /// Evaluate and compare written for speed answer as the plain ones, with the same sheet.
 #[test]
 fn fast_evaluate_and_compare_agree() {
+    fast_calls_agree::<Fp>();
+    fast_calls_agree::<Quadratic>();
+}
+
+fn fast_calls_agree<F: Passed>() {
     let wanted = outcomes(
         &["same", "different"],
         &[
@@ -95,42 +175,43 @@ fn fast_evaluate_and_compare_agree() {
             ("neither", 35..=35),
         ],
     );
-    run("fast compare", 4_000, &wanted, |random| {
+    let name = format!("fast compare over {}", F::NAME);
+    run(&name, 4_000, &wanted, |random| {
         let first = any(random);
         let second = second(random, &first);
         let (rows, columns) = shape(&first);
         let (rows, columns) = if random.chance(4) {
-            faulty_point(random, rows, columns)
+            F::faulty_point(random, rows, columns)
         } else {
-            point(random, rows, columns)
+            F::point(random, rows, columns)
         };
         let arrays = arrays(&first).max(arrays(&second));
         let lent = if random.chance(6) {
-            short_sheet(random, arrays)
+            short_sheet::<F>(random, arrays)
         } else {
-            sheet(random, arrays)
+            sheet::<F>(random, arrays)
         };
         let [first, second] = [bytes(&first), bytes(&second)];
         let mut plain = lent.clone();
         let mut fast = lent.clone();
-        let answer = calls::compare(&first, &second, &rows, &columns, &mut plain);
+        let answer = calls::compare::<F>(&first, &second, &rows, &columns, &mut plain);
         let mut case = Case::new(
             &[&first, &second],
             format!("{rows:?} {columns:?} {lent:?}"),
             compare_outcome(&answer),
         );
-        let got = pass::compare::<Factors>(&first, &second, &rows, &columns, &mut fast);
+        let got = pass::compare::<Factors<F>>(&first, &second, &rows, &columns, &mut fast);
         case.hold("compare by factors", got, answer);
         case.hold("its sheet", &fast, &plain);
         let mut fast = lent.clone();
-        let got = pass::compare::<Tables>(&first, &second, &rows, &columns, &mut fast);
+        let got = pass::compare::<Tables<F>>(&first, &second, &rows, &columns, &mut fast);
         case.hold("compare by tables", got, answer);
         case.hold("its sheet", &fast, &plain);
-        let answer = calls::evaluate(&first, &rows, &columns, &mut plain);
-        let got = pass::evaluate::<Factors>(&first, &rows, &columns, &mut fast);
+        let answer = calls::evaluate::<F>(&first, &rows, &columns, &mut plain);
+        let got = pass::evaluate::<Factors<F>>(&first, &rows, &columns, &mut fast);
         case.hold("evaluate by factors", got, answer);
         case.hold("its sheet", &fast, &plain);
-        let got = pass::evaluate::<Tables>(&first, &rows, &columns, &mut fast);
+        let got = pass::evaluate::<Tables<F>>(&first, &rows, &columns, &mut fast);
         case.hold("evaluate by tables", got, answer);
         case.hold("its sheet", &fast, &plain);
         case

@@ -1,5 +1,4 @@
 // The public calls, made with a case's numbers and data.
-use crate::header::Header;
 use crate::pairs;
 use crate::print;
 use crate::values;
@@ -8,6 +7,8 @@ use records::Call;
 use records::Cell;
 use records::Record;
 use records::Shape;
+use testing::input;
+use testing::input::Header;
 ghost use Prim.Native.Nat.{_<_};
 
 // Reads a case's data and makes its call. Inner: the lengths are as the header's reader leaves them.
@@ -23,7 +24,7 @@ pub(crate) fn call(header: Header, space: &mut [u8])
 
 // The call of a case on a buffer of its zeros and its data.
 fn on(header: Header, buffer: &mut [u8]) {
-    fill(header.zeros, buffer);
+    input::data(header.zeros, buffer);
     let operation = header.operation;
     let at = header.x as usize;
     match operation {
@@ -48,13 +49,6 @@ fn arithmetic(header: Header) -> Answer {
         1 => field::sum(a, b),
         2 => field::difference(a, b),
         _ => field::product(a, b),
-    }
-}
-
-// The data, read behind the zeros.
-fn fill(from: usize, buffer: &mut [u8]) {
-    if from <= buffer.len() {
-        io::read_full(0, &mut buffer[from..]);
     }
 }
 

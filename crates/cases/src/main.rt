@@ -5,14 +5,16 @@
 // front of what was got, bytes of data, and, where the call has them, the coordinates and what the sheet holds, or the values
 // that coordinates are taken from, four bytes for each number. All numbers are little-endian.
 mod calls;
-mod header;
 mod pairs;
 mod print;
 mod tally;
 mod values;
 
+use testing::input;
+use testing::output;
+
 fn main() {
-    let cases = header::next();
+    let cases = input::next();
     for _ in 0..cases {
         run();
     }
@@ -20,11 +22,9 @@ fn main() {
 
 // One case.
 fn run() {
-    let mut bytes = [0u8; 48];
-    io::read_full(0, &mut bytes);
-    let header = header::read(&bytes);
+    let header = input::read();
     let mut text = [0u8; 65536];
-    print::echo(header.text, &mut text);
+    output::echo(header.text, &mut text);
     let mut space = [0u8; 262144];
     calls::call(header, &mut space);
     io::write_all(1, b"\n");

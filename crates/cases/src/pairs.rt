@@ -1,11 +1,9 @@
 // Compare, called on a case's two keys at its point, or at every point of a list of values. Counts are cut so that they fit
 // the arrays.
-use crate::header::Header;
-use crate::print;
 use crate::tally;
-use crate::values;
-use compare::Compared;
-use compare::Which;
+use testing::input;
+use testing::input::Header;
+use testing::output;
 
 // Compares the keys at the case's point.
 pub(crate) fn at_point(header: Header, data: &[u8]) {
@@ -17,8 +15,8 @@ pub(crate) fn at_point(header: Header, data: &[u8]) {
     let mut columns = [0u32; 512];
     let mut sheet = [0u32; 4096];
     compare(
-        part(data, header.x as usize, header.y as usize),
-        part(data, fields[3] as usize, fields[4] as usize),
+        input::part(data, header.x as usize, header.y as usize),
+        input::part(data, fields[3] as usize, fields[4] as usize),
         &mut rows[0..row_count],
         &mut columns[0..column_count],
         &mut sheet[0..places],
@@ -33,8 +31,8 @@ pub(crate) fn at_points(header: Header, data: &[u8]) {
     let count = (fields[2] % 2048) as usize;
     let mut values = [0u32; 2048];
     sweep(
-        part(data, header.x as usize, header.y as usize),
-        part(data, fields[3] as usize, fields[4] as usize),
+        input::part(data, header.x as usize, header.y as usize),
+        input::part(data, fields[3] as usize, fields[4] as usize),
         row_count,
         column_count,
         &mut values[0..count],
@@ -43,57 +41,16 @@ pub(crate) fn at_points(header: Header, data: &[u8]) {
 
 // Reads the point and the sheet, compares, and prints the answer and the sheet afterwards.
 fn compare(first: &[u8], second: &[u8], rows: &mut [u32], columns: &mut [u32], sheet: &mut [u32]) {
-    values::fill(rows);
-    values::fill(columns);
-    values::fill(sheet);
-    said(compare::compare(first, second, rows, columns, sheet));
-    print::sheet(sheet);
+    input::fill(rows);
+    input::fill(columns);
+    input::fill(sheet);
+    output::compared(compare::compare(first, second, rows, columns, sheet));
+    output::sheet(sheet);
 }
 
 // Reads the values, compares at their points, and prints each answer's letter and the counts.
 fn sweep(first: &[u8], second: &[u8], rows: usize, columns: usize, values: &mut [u32]) {
-    values::fill(values);
+    input::fill(values);
     let mut sheet = [0u32; 4096];
     tally::show(tally::over_points(first, second, rows, columns, values, &mut sheet));
-}
-
-// Prints whether the keys are the same, or the refusal with the key that it is about.
-fn said(got: Compared) {
-    match got {
-        Compared::Same => {
-            io::write_all(1, b"same");
-        }
-        Compared::Different => {
-            io::write_all(1, b"different");
-        }
-        Compared::Refused(key, r) => {
-            which(key);
-            print::refusal(r);
-        }
-    }
-}
-
-// Prints which key a refusal is about.
-fn which(key: Which) {
-    match key {
-        Which::First => {
-            io::write_all(1, b"first ");
-        }
-        Which::Second => {
-            io::write_all(1, b"second ");
-        }
-        Which::Neither => {
-            io::write_all(1, b"neither ");
-        }
-    }
-}
-
-// The bytes from one offset up to another, or none where the data does not have them.
-fn part(data: &[u8], from: usize, to: usize) -> &[u8] {
-    if to <= data.len() {
-        if from <= to {
-            return &data[from..to];
-        }
-    }
-    &data[0..0]
 }

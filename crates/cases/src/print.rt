@@ -7,26 +7,13 @@ use records::Record;
 use records::Shape;
 use records::Taken;
 use records::Written;
-use refusal::Refusal;
-
-// As many bytes of standard input as asked for, where the space has room.
-pub(crate) fn echo(length: usize, space: &mut [u8]) {
-    if length <= space.len() {
-        pass(&mut space[0..length]);
-    }
-}
-
-// Standard input copied to standard output until the space is full or the input ends.
-fn pass(space: &mut [u8]) {
-    let got = io::read_full(0, space);
-    io::write_all(1, &space[..got]);
-}
+use testing::output;
 
 // A number, or a refusal.
 pub(crate) fn answer(got: Answer) {
     match got {
-        Answer::Element(x) => number(x.value() as u64),
-        Answer::Refused(r) => refusal(r),
+        Answer::Element(x) => output::number(x.value() as u64),
+        Answer::Refused(r) => output::refusal(r),
     }
 }
 
@@ -36,9 +23,9 @@ pub(crate) fn taken(got: Taken) {
         Taken::Record(item, next) => {
             record(item);
             io::write_all(1, b"next ");
-            number(next as u64);
+            output::number(next as u64);
         }
-        Taken::Refused(r) => refusal(r),
+        Taken::Refused(r) => output::refusal(r),
     }
 }
 
@@ -47,9 +34,9 @@ pub(crate) fn written(got: Written) {
     match got {
         Written::Next(next) => {
             io::write_all(1, b"next ");
-            number(next as u64);
+            output::number(next as u64);
         }
-        Written::Refused(r) => refusal(r),
+        Written::Refused(r) => output::refusal(r),
     }
 }
 
@@ -57,7 +44,7 @@ pub(crate) fn written(got: Written) {
 pub(crate) fn checked(got: Checked) {
     match got {
         Checked::Accepted(c) => counts(c),
-        Checked::Refused(r) => refusal(r),
+        Checked::Refused(r) => output::refusal(r),
     }
 }
 
@@ -67,19 +54,9 @@ pub(crate) fn evaluated(got: Evaluated) {
         Evaluated::Values(v) => {
             field(v.a.value());
             field(v.b.value());
-            number(v.c.value() as u64);
+            output::number(v.c.value() as u64);
         }
-        Evaluated::Refused(r) => refusal(r),
-    }
-}
-
-// The places of a sheet.
-pub(crate) fn sheet(places: &[u32]) {
-    io::write_all(1, b" sheet");
-    let mut i = 0;
-    while i < places.len() {
-        spaced(places[i]);
-        i += 1;
+        Evaluated::Refused(r) => output::refusal(r),
     }
 }
 
@@ -90,11 +67,6 @@ pub(crate) fn bytes(buffer: &[u8], from: usize) {
         byte(buffer[i]);
         i += 1;
     }
-}
-
-fn spaced(x: u32) {
-    io::write_all(1, b" ");
-    number(x as u64);
 }
 
 fn byte(x: u8) {
@@ -137,15 +109,15 @@ fn record(item: Record) {
 
 fn counts(c: Counts) {
     io::write_all(1, b"arrays ");
-    number(c.arrays as u64);
+    output::number(c.arrays as u64);
     io::write_all(1, b" cells ");
-    number(c.cells as u64);
+    output::number(c.cells as u64);
     io::write_all(1, b" calls ");
-    number(c.calls as u64);
+    output::number(c.calls as u64);
     io::write_all(1, b" rows ");
-    number(c.rows as u64);
+    output::number(c.rows as u64);
     io::write_all(1, b" columns ");
-    number(c.columns as u64);
+    output::number(c.columns as u64);
 }
 
 fn shape(s: Shape) {
@@ -154,20 +126,6 @@ fn shape(s: Shape) {
 }
 
 fn field(x: u32) {
-    number(x as u64);
+    output::number(x as u64);
     io::write_all(1, b" ");
-}
-
-// A refusal: its number and its place.
-pub(crate) fn refusal(r: Refusal) {
-    let reason = r.reason;
-    io::write_all(1, b"refused ");
-    number(reason.number() as u64);
-    io::write_all(1, b" at ");
-    number(r.place as u64);
-}
-
-// A number.
-pub(crate) fn number(x: u64) {
-    io::print_decimal(1, x);
 }

@@ -1,6 +1,6 @@
 // What compare answers over the points of a list of values: a letter for each, and how many of them are S and D.
-use crate::print;
 use compare::Compared;
+use testing::output;
 ghost use Prim.Native.Nat.{_≤_};
 
 // At how many points two keys are the same, and at how many they are different.
@@ -120,7 +120,7 @@ fn counted(tally: Tally, got: Compared) -> Tally {
 // Prints a tally behind its letters.
 pub(crate) fn show(tally: Tally) {
     io::write_all(1, b" same ");
-    print::number(tally.same as u64);
+    output::number(tally.same as u64);
     io::write_all(1, b" different ");
-    print::number(tally.different as u64);
+    output::number(tally.different as u64);
 }

@@ -1,7 +1,8 @@
 // Evaluate and cell, called on a key with a case's point or place and its sheet. Counts are cut so that they fit the arrays.
-use crate::header;
-use crate::header::Header;
 use crate::print;
+use testing::input;
+use testing::input::Header;
+use testing::output;
 
 // Evaluates the key at the case's point.
 pub(crate) fn at_point(header: Header, key: &[u8]) {
@@ -30,25 +31,16 @@ pub(crate) fn at_place(header: Header, key: &[u8]) {
 
 // Reads the point and the sheet, evaluates, and prints the answer and the sheet afterwards.
 fn evaluate(key: &[u8], rows: &mut [u32], columns: &mut [u32], sheet: &mut [u32]) {
-    fill(rows);
-    fill(columns);
-    fill(sheet);
+    input::fill(rows);
+    input::fill(columns);
+    input::fill(sheet);
     print::evaluated(evaluate::evaluate(key, rows, columns, sheet));
-    print::sheet(sheet);
+    output::sheet(sheet);
 }
 
 // Reads the sheet, gives the cell, and prints the answer and the sheet afterwards.
 fn cell(key: &[u8], row: u32, column: u32, sheet: &mut [u32]) {
-    fill(sheet);
+    input::fill(sheet);
     print::evaluated(evaluate::cell(key, row, column, sheet));
-    print::sheet(sheet);
-}
-
-// The next numbers of standard input.
-pub(crate) fn fill(numbers: &mut [u32]) {
-    let mut i = 0;
-    while i < numbers.len() {
-        numbers[i] = header::next();
-        i += 1;
-    }
+    output::sheet(sheet);
 }

@@ -6,6 +6,7 @@ use lib.ListN.{replicate}
 use Rattle.refusal.specs.Number.{numberOf}
 use Rattle.algebra.specs.Arithmetic.{sumBelow}
 use Rattle.field.specs.Fp.{p}
+use Rattle.field.specs.Scalars.{prime}
 use Rattle.records.specs.Kinds.{recordOf}
 use Rattle.records.specs.Take.{takenAs, takenFrom, takenAt}
 use Rattle.records.proofs.Examples.{key}
@@ -22,7 +23,7 @@ use Rattle.key.specs.Reading.{readAt, readFrom, locatedIn}
 use Rattle.evaluate.specs.Evaluate.{concluded}
 use Rattle.evaluate.specs.Judged.{firstOver, pointJudged, sheetJudged}
 use Rattle.evaluate.specs.Sheet.{wordsBelow}
-use Rattle.compare.specs.Compare.{Answer, same, different, Comparison, naming, shapesJudged, likeness, compared}
+use Rattle.compare.specs.Compare.{Answer, same, different, Comparison, naming, shapesJudged, sameNumbers, likeness, compared}
 use Rattle.compare.specs.declared.Which.{Which}
 use Rattle.compare.proofs.Comparisons.{refusedCall}
 
@@ -44,13 +45,13 @@ abbrev pub none : List ℕ
 none = sparse 1 1 []
 
 abbrev cornerAt : ℕ → ℕ → Comparison
-cornerAt row column = compared corner none (row ∷ []) (column ∷ []) (replicate 3 9)
+cornerAt row column = compared prime corner none (row ∷ []) (column ∷ []) (replicate 3 9)
 
 corner-against-none :
     answers (cornerAt 0 0 ∷ cornerAt 0 7 ∷ cornerAt 7 0 ∷ cornerAt 1 1 ∷ cornerAt 7 (p - 1) ∷ [])
     ≡ same ∷ same ∷ same ∷ different ∷ different ∷ []
 unfolding
-    naming shapesJudged likeness concluded wordsBelow weight weighted sumBelow moved summed entriesMatrix matricesBelow
+    naming shapesJudged sameNumbers likeness concluded wordsBelow weight weighted sumBelow moved summed entriesMatrix matricesBelow
     checkedKey judged rulesOf rulesBehind firstBroken flatMap countOf readFrom readAt locatedIn takenAt takenFrom takenAs recordOf
     arraysOf cellsFirst callsFirst firstOver pointJudged sheetJudged numberOf
 corner-against-none = refl
@@ -58,13 +59,13 @@ corner-against-none = refl
 -- no coordinates: the one place decides, in A, in B and in C
 abbrev placesOf : ℕ → ℕ → ℕ → Comparison
 placesOf a b c =
-    compared (sparse 0 0 (cell 0 0 a b c ∷ [])) (sparse 0 0 (cell 0 0 (p - 1) 2 3 ∷ cell 0 0 2 0 0 ∷ [])) [] [] (replicate 3 9)
+    compared prime (sparse 0 0 (cell 0 0 a b c ∷ [])) (sparse 0 0 (cell 0 0 (p - 1) 2 3 ∷ cell 0 0 2 0 0 ∷ [])) [] [] (replicate 3 9)
 
 no-coordinates :
     answers (placesOf 1 2 3 ∷ placesOf 0 2 3 ∷ placesOf 1 3 3 ∷ placesOf 1 2 4 ∷ placesOf 3 2 1 ∷ [])
     ≡ same ∷ different ∷ different ∷ different ∷ different ∷ []
 unfolding
-    naming shapesJudged likeness concluded wordsBelow weight weighted sumBelow moved summed entriesMatrix matricesBelow
+    naming shapesJudged sameNumbers likeness concluded wordsBelow weight weighted sumBelow moved summed entriesMatrix matricesBelow
     checkedKey judged rulesOf rulesBehind firstBroken flatMap countOf readFrom readAt locatedIn takenAt takenFrom takenAs recordOf
     arraysOf cellsFirst callsFirst firstOver pointJudged sheetJudged numberOf
 no-coordinates = refl
@@ -76,12 +77,12 @@ single = sparse 1 1 (cell 1 1 1 2 3 ∷ [])
 
 written :
     map (λ (c : Comparison). c .sheet)
-    (compared key single (3 ∷ []) (4 ∷ []) (replicate 7 9) ∷ compared single key (3 ∷ []) (4 ∷ []) (replicate 7 9) ∷ [])
+    (compared prime key single (3 ∷ []) (4 ∷ []) (replicate 7 9) ∷ compared prime single key (3 ∷ []) (4 ∷ []) (replicate 7 9) ∷ [])
     ≡ (12 ∷ 24 ∷ 36 ∷ 2147483567 ∷ 2147483535 ∷ 0 ∷ 9 ∷ [])
     ∷ (20 ∷ 28 ∷ 0 ∷ 2147483567 ∷ 2147483535 ∷ 0 ∷ 9 ∷ [])
     ∷ []
 unfolding
-    naming shapesJudged likeness concluded wordsBelow weight weighted sumBelow moved summed entriesMatrix matricesBelow
+    naming shapesJudged sameNumbers likeness concluded wordsBelow weight weighted sumBelow moved summed entriesMatrix matricesBelow
     checkedKey judged rulesOf rulesBehind firstBroken flatMap countOf readFrom readAt locatedIn takenAt takenFrom takenAs recordOf
     arraysOf cellsFirst callsFirst firstOver pointJudged sheetJudged numberOf
 written = refl
@@ -91,20 +92,20 @@ written = refl
 abbrev refusals : List Comparison
 refusals =
     -- the empty key first, second and both
-    compared [] (1 ∷ []) [] [] [] ∷
-    compared key [] [] [] [] ∷
-    compared [] [] [] [] [] ∷
+    compared prime [] (1 ∷ []) [] [] [] ∷
+    compared prime key [] [] [] [] ∷
+    compared prime [] [] [] [] [] ∷
     -- shapes that differ in rows and in columns
-    compared key (sparse 0 1 []) [] [] [] ∷
-    compared (sparse 1 0 []) key [] [] [] ∷
+    compared prime key (sparse 0 1 []) [] [] [] ∷
+    compared prime (sparse 1 0 []) key [] [] [] ∷
     -- no row coordinate, no column coordinate, and coordinates p or more, the row first
-    compared key single [] [] [] ∷
-    compared key single (p ∷ []) [] [] ∷
-    compared key single (p ∷ []) (p ∷ []) [] ∷
-    compared key single (0 ∷ []) (p ∷ []) [] ∷
+    compared prime key single [] [] [] ∷
+    compared prime key single (p ∷ []) [] [] ∷
+    compared prime key single (p ∷ []) (p ∷ []) [] ∷
+    compared prime key single (0 ∷ []) (p ∷ []) [] ∷
     -- a sheet that fits only one of the keys
-    compared key single (3 ∷ []) (4 ∷ []) (replicate 5 9) ∷
-    compared single key (3 ∷ []) (4 ∷ []) (replicate 5 9) ∷ []
+    compared prime key single (3 ∷ []) (4 ∷ []) (replicate 5 9) ∷
+    compared prime single key (3 ∷ []) (4 ∷ []) (replicate 5 9) ∷ []
 
 refused-all :
     refusals ≡
@@ -114,7 +115,7 @@ refused-all :
     refusedCall Which.Neither 23 0 [] ∷ refusedCall Which.Neither 23 1 [] ∷
     refusedCall Which.Neither 31 6 (replicate 5 9) ∷ refusedCall Which.Neither 31 6 (replicate 5 9) ∷ []
 unfolding
-    naming shapesJudged likeness concluded wordsBelow weight weighted sumBelow moved summed entriesMatrix matricesBelow
+    naming shapesJudged sameNumbers likeness concluded wordsBelow weight weighted sumBelow moved summed entriesMatrix matricesBelow
     checkedKey judged rulesOf rulesBehind firstBroken flatMap countOf readFrom readAt locatedIn takenAt takenFrom takenAs recordOf
     arraysOf cellsFirst callsFirst firstOver pointJudged sheetJudged numberOf
 refused-all = refl

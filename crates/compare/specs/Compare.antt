@@ -1,18 +1,18 @@
 -- What compare answers, and what it leaves on the sheet (01, 'Comparing two keys').
-use Prim.Native.Nat.{ℕ}
-use mathlib.Core.Bool.{cond, _&&_}
-use mathlib.Core.List.{List}
+use Prim.Native.Nat.{ℕ, _*_}
+use mathlib.Core.Bool.{Bool, true, false, cond, _&&_}
+use mathlib.Core.List.{List, [], _∷_}
 use lib.Dec.{eqb, ltb}
 use lib.ListN.{length}
 use Rattle.refusal.specs.Number.{numberOf}
 use Rattle.refusal.specs.Outcome.{Outcome, given, refused, refuse, andThen}
 use Rattle.refusal.specs.declared.Reason.{Reason}
-use Rattle.arrays.specs.Arrays.{Values}
+use Rattle.field.specs.Scalars.{Scalars}
 use Rattle.key.specs.Check.{checkedKey}
 use Rattle.key.specs.declared.Counts.{Counts}
-use Rattle.evaluate.specs.Evaluate.{lastValues, evaluated}
+use Rattle.evaluate.specs.Evaluate.{ValuesOf, lastValues, evaluated}
 use Rattle.evaluate.specs.Judged.{pointJudged, sheetJudged}
-use Rattle.evaluate.specs.Sheet.{width}
+use Rattle.evaluate.specs.Sheet.{wordsOf}
 use Rattle.compare.specs.declared.Compared.{Compared}
 use Rattle.compare.specs.declared.Which.{Which}
 
@@ -46,25 +46,31 @@ shapesJudged one other =
     (given (cond (ltb (one .arrays) (other .arrays)) other one))
     (refuse Reason.ShapesDiffer 0)
 
--- what names neither key: 35, then 21, 22, 23, then 31 for the key with more arrays
-abbrev pub pairJudged : List ℕ → List ℕ → ℕ → Counts → Counts → Outcome Counts
-pairJudged rows columns places one other =
-    andThen (andThen (shapesJudged one other) (pointJudged rows columns)) (sheetJudged width places)
+-- what names neither key: 35, then 21, 22, 23, then 31 for the key with more arrays; an element of the field takes `width` numbers
+abbrev pub pairJudged : ℕ → List ℕ → List ℕ → ℕ → Counts → Counts → Outcome Counts
+pairJudged width rows columns places one other =
+    andThen (andThen (shapesJudged one other) (pointJudged width rows columns)) (sheetJudged (3 * width) places)
 
--- "same" if all three numbers are equal, else "different"
-unfoldable pub likeness : Values → Values → Answer
-likeness one other =
-    cond (eqb (one .a) (other .a) && eqb (one .b) (other .b) && eqb (one .c) (other .c)) same different
+-- are the numbers of two lists equal, one by one?
+unfoldable pub sameNumbers : List ℕ → List ℕ → Bool
+sameNumbers [] [] = true
+sameNumbers [] (y ∷ ys) = false
+sameNumbers (x ∷ xs) [] = false
+sameNumbers (x ∷ xs) (y ∷ ys) = eqb x y && sameNumbers xs ys
+
+-- "same" if all the numbers of A, B and C are equal, else "different"
+unfoldable pub likeness : (𝓢 : Scalars) → ValuesOf 𝓢 → ValuesOf 𝓢 → Answer
+likeness 𝓢 one other = cond (sameNumbers (wordsOf 𝓢 one) (wordsOf 𝓢 other)) same different
 
 -- The first key's refusals come first, then the second's. The numbers compared are those that evaluate answers for the first key
 -- and for the second, which demand 2 fixes: the extensions of their last arrays' dense matrices. The sheet ends as if the first
 -- key and then the second had been evaluated on it.
-abbrev pub compared : List ℕ → List ℕ → List ℕ → List ℕ → List ℕ → Comparison
-compared first second rows columns sheet =
+abbrev pub compared : Scalars → List ℕ → List ℕ → List ℕ → List ℕ → List ℕ → Comparison
+compared 𝓢 first second rows columns sheet =
     naming Which.First (checkedKey first) sheet (λ one.
     naming Which.Second (checkedKey second) sheet (λ other.
-    naming Which.Neither (pairJudged rows columns (length sheet) one other) sheet (λ counts.
+    naming Which.Neither (pairJudged (𝓢 .width) rows columns (length sheet) one other) sheet (λ counts.
     record {
-      answer = likeness (lastValues first rows columns) (lastValues second rows columns);
-      sheet = evaluated second rows columns (evaluated first rows columns sheet .sheet) .sheet;
+      answer = likeness 𝓢 (lastValues 𝓢 first rows columns) (lastValues 𝓢 second rows columns);
+      sheet = evaluated 𝓢 second rows columns (evaluated 𝓢 first rows columns sheet .sheet) .sheet;
     })))

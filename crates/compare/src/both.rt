@@ -7,14 +7,16 @@ use records::Shape;
 use weights::table;
 ghost use mathlib.Core.Path.{_≡_};
 ghost use lib.ListN.{length};
+ghost use Rattle.field.specs.Scalars.{prime};
 ghost use Rattle.weights.specs.Side.{Ready};
+ghost use Rattle.weights.specs.Words.{singles};
 ghost use Rattle.evaluate.specs.Evaluate.{valuesIn, lastValues};
 ghost use Rattle.compare.specs.Compare.{comparedAnswer, likeness};
 ghost use Rattle.compare.specs.Inner.{Evaluable, writtenBy};
 
 // Whether the last arrays' three numbers are equal at a point. The sheet ends with those of the second key's arrays over those of the
-// first's. Weights of limbs are prepared where they are estimated to save more, in both keys together, than they cost (`work`). Inner: both keys can be
-// evaluated at the point on the sheet.
+// first's. Weights of limbs are prepared where they are estimated to save more, in both keys together, than they cost (`work`). Inner:
+// both keys can be evaluated at the point on the sheet.
 pub(crate) fn run(
     first: &[u8],
     first_starts: &[u16],
@@ -26,10 +28,10 @@ pub(crate) fn run(
     columns: &[u32],
     sheet: &mut [u32],
 ) -> Compared
-    requires { ⌜ Evaluable (now first) (now «first_starts») «first_arrays» (now rows) (now columns) (length (now sheet)) ⌝ }
-    requires { ⌜ Evaluable (now second) (now «second_starts») «second_arrays» (now rows) (now columns) (length (now sheet)) ⌝ }
-    ensures answer { λ r. ⌜ comparedAnswer r ≡ likeness (lastValues (now (first .entry)) (now (rows .entry)) (now (columns .entry))) (lastValues (now (second .entry)) (now (rows .entry)) (now (columns .entry))) ⌝ }
-    ensures sheet { λ _. ⌜ now (sheet .exit) ≡ writtenBy (now (second .entry)) (now (rows .entry)) (now (columns .entry)) «second_arrays» (writtenBy (now (first .entry)) (now (rows .entry)) (now (columns .entry)) «first_arrays» (now (sheet .entry))) ⌝ }
+    requires { ⌜ Evaluable prime (now first) (now «first_starts») «first_arrays» (now rows) (now columns) (length (now sheet)) ⌝ }
+    requires { ⌜ Evaluable prime (now second) (now «second_starts») «second_arrays» (now rows) (now columns) (length (now sheet)) ⌝ }
+    ensures answer { λ r. ⌜ comparedAnswer r ≡ likeness prime (lastValues prime (now (first .entry)) (now (rows .entry)) (now (columns .entry))) (lastValues prime (now (second .entry)) (now (rows .entry)) (now (columns .entry))) ⌝ }
+    ensures sheet { λ _. ⌜ now (sheet .exit) ≡ writtenBy prime (now (second .entry)) (now (rows .entry)) (now (columns .entry)) «second_arrays» (writtenBy prime (now (first .entry)) (now (rows .entry)) (now (columns .entry)) «first_arrays» (now (sheet .entry))) ⌝ }
 {
     let first_saved = work::saved(first, first_starts, first_arrays);
     let second_saved = work::saved(second, second_starts, second_arrays);
@@ -81,11 +83,11 @@ fn by_sides(
     columnwise: &mut [u32],
     sheet: &mut [u32],
 ) -> Compared
-    requires { ⌜ Evaluable (now first) (now «first_starts») «first_arrays» (now rows) (now columns) (length (now sheet)) ⌝ }
-    requires { ⌜ Evaluable (now second) (now «second_starts») «second_arrays» (now rows) (now columns) (length (now sheet)) ⌝ }
-    requires { ⌜ Ready (now rowwise) × Ready (now columnwise) ⌝ }
-    ensures answer { λ r. ⌜ comparedAnswer r ≡ likeness (lastValues (now (first .entry)) (now (rows .entry)) (now (columns .entry))) (lastValues (now (second .entry)) (now (rows .entry)) (now (columns .entry))) ⌝ }
-    ensures sheet { λ _. ⌜ now (sheet .exit) ≡ writtenBy (now (second .entry)) (now (rows .entry)) (now (columns .entry)) «second_arrays» (writtenBy (now (first .entry)) (now (rows .entry)) (now (columns .entry)) «first_arrays» (now (sheet .entry))) ⌝ }
+    requires { ⌜ Evaluable prime (now first) (now «first_starts») «first_arrays» (now rows) (now columns) (length (now sheet)) ⌝ }
+    requires { ⌜ Evaluable prime (now second) (now «second_starts») «second_arrays» (now rows) (now columns) (length (now sheet)) ⌝ }
+    requires { ⌜ Ready singles (now rowwise) × Ready singles (now columnwise) ⌝ }
+    ensures answer { λ r. ⌜ comparedAnswer r ≡ likeness prime (lastValues prime (now (first .entry)) (now (rows .entry)) (now (columns .entry))) (lastValues prime (now (second .entry)) (now (rows .entry)) (now (columns .entry))) ⌝ }
+    ensures sheet { λ _. ⌜ now (sheet .exit) ≡ writtenBy prime (now (second .entry)) (now (rows .entry)) (now (columns .entry)) «second_arrays» (writtenBy prime (now (first .entry)) (now (rows .entry)) (now (columns .entry)) «first_arrays» (now (sheet .entry))) ⌝ }
 {
     let most = Shape {
         rows: rows.len() as u8,
@@ -118,7 +120,7 @@ fn by_sides(
 
 // Whether all three numbers are equal.
 fn likeness(one: Values, other: Values) -> Compared
-    ensures { λ r. ⌜ comparedAnswer r ≡ likeness (valuesIn one) (valuesIn other) ⌝ }
+    ensures { λ r. ⌜ comparedAnswer r ≡ likeness prime (valuesIn one) (valuesIn other) ⌝ }
 {
     if one.a.value() != other.a.value() {
         return Compared::Different;

@@ -8,21 +8,22 @@ ghost use Prim.Native.Nat.{_≤_};
 ghost use Rattle.key.specs.Check.{checkedOutcome};
 ghost use Rattle.compare.specs.Compare.{shapesJudged, pairJudged};
 
-// The shapes of two keys of these counts, a point for them, and a sheet of so many places. Inner: neither has more arrays than a
-// key may have.
-pub(crate) fn pair(
+// The shapes of two keys of these counts, a point for them, and a sheet of so many places, where an element of the field takes `width`
+// numbers. Inner: it takes at most two, and neither key has more arrays than a key may have.
+pub fn pair(
     one: Counts,
     other: Counts,
+    width: usize,
     rows: &[u32],
     columns: &[u32],
     places: usize,
 ) -> Checked
-    requires { ⌜ (one .arrays ≤ 1024) × (other .arrays ≤ 1024) ⌝ }
-    ensures { λ r. ⌜ checkedOutcome r ≡ pairJudged (now (rows .entry)) (now (columns .entry)) places one other ⌝ }
+    requires { ⌜ (width ≤ 2) × (one .arrays ≤ 1024) × (other .arrays ≤ 1024) ⌝ }
+    ensures { λ r. ⌜ checkedOutcome r ≡ pairJudged width (now (rows .entry)) (now (columns .entry)) places one other ⌝ }
 {
     let shaped = shapes(one, other);
-    let pointed = judge::point(shaped, rows, columns);
-    judge::sheet(pointed, places)
+    let pointed = judge::point(shaped, width, rows, columns);
+    judge::sheet(pointed, 3 * width, places)
 }
 
 // The shapes of two accepted keys: where they are equal, the counts of the key with more arrays.

@@ -1,12 +1,13 @@
 // Two keys compared at a point (01, 'Comparing two keys').
 mod both;
-mod judge;
+pub mod judge;
 
 use key::Checked;
 use refusal::Refusal;
 ghost use mathlib.Core.Path.{_≡_};
 ghost use Prim.Native.Nat.{min, _/_, _≤_};
 ghost use lib.ListN.{length};
+ghost use Rattle.field.specs.Scalars.{prime};
 ghost use Rattle.compare.specs.AgreementBound.{Agreement};
 ghost use Rattle.compare.specs.Compare.{comparedAnswer, compared};
 
@@ -38,9 +39,9 @@ pub fn compare(
     columns: &[u32],
     sheet: &mut [u32],
 ) -> Compared
-    ensures answer { λ r. ⌜ comparedAnswer r ≡ compared (now (first .entry)) (now (second .entry)) (now (rows .entry)) (now (columns .entry)) (now (sheet .entry)) .answer ⌝ }
-    ensures sheet { λ _. ⌜ now (sheet .exit) ≡ compared (now (first .entry)) (now (second .entry)) (now (rows .entry)) (now (columns .entry)) (now (sheet .entry)) .sheet ⌝ }
-    ensures agreement { λ _. ⌜ Agreement (now (first .entry)) (now (second .entry)) ⌝ }
+    ensures answer { λ r. ⌜ comparedAnswer r ≡ compared prime (now (first .entry)) (now (second .entry)) (now (rows .entry)) (now (columns .entry)) (now (sheet .entry)) .answer ⌝ }
+    ensures sheet { λ _. ⌜ now (sheet .exit) ≡ compared prime (now (first .entry)) (now (second .entry)) (now (rows .entry)) (now (columns .entry)) (now (sheet .entry)) .sheet ⌝ }
+    ensures agreement { λ _. ⌜ Agreement prime (now (first .entry)) (now (second .entry)) ⌝ }
 {
     if first.len() < key::SHORT {
         if second.len() < key::SHORT {
@@ -83,8 +84,8 @@ fn by_tables(
 ) -> Compared
     requires { ⌜ min 1024 (length (now first) / 3) ≤ length (now «first_starts») ⌝ }
     requires { ⌜ min 1024 (length (now second) / 3) ≤ length (now «second_starts») ⌝ }
-    ensures answer { λ r. ⌜ comparedAnswer r ≡ compared (now (first .entry)) (now (second .entry)) (now (rows .entry)) (now (columns .entry)) (now (sheet .entry)) .answer ⌝ }
-    ensures sheet { λ _. ⌜ now (sheet .exit) ≡ compared (now (first .entry)) (now (second .entry)) (now (rows .entry)) (now (columns .entry)) (now (sheet .entry)) .sheet ⌝ }
+    ensures answer { λ r. ⌜ comparedAnswer r ≡ compared prime (now (first .entry)) (now (second .entry)) (now (rows .entry)) (now (columns .entry)) (now (sheet .entry)) .answer ⌝ }
+    ensures sheet { λ _. ⌜ now (sheet .exit) ≡ compared prime (now (first .entry)) (now (second .entry)) (now (rows .entry)) (now (columns .entry)) (now (sheet .entry)) .sheet ⌝ }
 {
     let first_counts = match key::index(first, first_starts) {
         Checked::Refused(refusal) => return Compared::Refused(Which::First, refusal),
@@ -94,7 +95,7 @@ fn by_tables(
         Checked::Refused(refusal) => return Compared::Refused(Which::Second, refusal),
         Checked::Accepted(counts) => counts,
     };
-    match judge::pair(first_counts, second_counts, rows, columns, sheet.len()) {
+    match judge::pair(first_counts, second_counts, 1, rows, columns, sheet.len()) {
         Checked::Refused(refusal) => return Compared::Refused(Which::Neither, refusal),
         Checked::Accepted(_) => (),
     }

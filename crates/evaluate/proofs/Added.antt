@@ -4,17 +4,18 @@ use mathlib.Core.List.{List, [], _∷_}
 use mathlib.Core.Path.{_≡_, sym, _∙_}
 use native.Mathlib.Omega.{arith}
 use lib.ListN.{length}
-use Rattle.field.specs.Fp.{fp}
+use Rattle.field.specs.Scalars.{Scalars}
 use Rattle.records.specs.Kinds.{encoded}
 use Rattle.records.specs.declared.Record.{Record}
 use Rattle.records.proofs.Taking.{given-onward}
-use Rattle.arrays.specs.Arrays.{Values, Part, valueOf, Entries, cells, calls}
+use Rattle.arrays.specs.Arrays.{Part, valueOf, Entries, cells, calls}
 use Rattle.arrays.specs.Pass.{entriesTerms}
 use Rattle.arrays.specs.Side.{Side}
 use Rattle.arrays.proofs.Parts.{values-same, values-back}
 use Rattle.key.specs.Encoding.{cellRecord, callRecord, entryRecords}
 use Rattle.key.specs.Index.{Runs}
 use Rattle.key.specs.KeyArrays.{keyArrays}
+use Rattle.evaluate.specs.Evaluate.{ValuesOf}
 use Rattle.evaluate.specs.Inner.{nextValues}
 use Rattle.evaluate.proofs.Adding.{Adding, Becomes, CellsLeft, CallsLeft}
 
@@ -27,34 +28,34 @@ runs-ahead key from (r ∷ records) to runs =
       runs-ahead key (from + length (encoded r)) records to (runs .1),
     )
 
-module _ (key : List ℕ) (S S' : Side fp) (sheet : List ℕ) (i to : ℕ) where
-  done : (todo : Entries) (sum : Values) (at : ℕ) → to ≤ at → Adding key S S' sheet i to todo sum at →
-      sum ≡ nextValues (keyArrays key) S S' sheet i
+module _ (𝓢 : Scalars) (key : List ℕ) (S S' : Side (𝓢 .arithmetic)) (sheet : List ℕ) (i to : ℕ) where
+  done : (todo : Entries) (sum : ValuesOf 𝓢) (at : ℕ) → to ≤ at → Adding 𝓢 key S S' sheet i to todo sum at →
+      sum ≡ nextValues 𝓢 (keyArrays key) S S' sheet i
   unfolding entriesTerms
   done todo sum at l left = go todo (left .runs) (left .becomes)
     where
-      same : ((part : Part) → valueOf part sum ≡ valueOf part (nextValues (keyArrays key) S S' sheet i)) →
-          sum ≡ nextValues (keyArrays key) S S' sheet i
+      same : ((part : Part) → valueOf part sum ≡ valueOf part (nextValues 𝓢 (keyArrays key) S S' sheet i)) →
+          sum ≡ nextValues 𝓢 (keyArrays key) S S' sheet i
       same e =
           sym (values-back sum)
-          ∙ values-same (λ part. valueOf part sum) (λ part. valueOf part (nextValues (keyArrays key) S S' sheet i)) e
-          ∙ values-back (nextValues (keyArrays key) S S' sheet i)
+          ∙ values-same (λ part. valueOf part sum) (λ part. valueOf part (nextValues 𝓢 (keyArrays key) S S' sheet i)) e
+          ∙ values-back (nextValues 𝓢 (keyArrays key) S S' sheet i)
 
       ahead : (r : Record) (records : List Record) → Runs key at (r ∷ records) to → ⊥
       ahead r records runs =
           omega (arith, given-onward key at _ (runs .0) .0, runs-ahead key (at + length (encoded r)) records to (runs .1))
 
-      go : (todo : Entries) → Runs key at (entryRecords todo) to → Becomes key S S' sheet i to sum todo →
-          sum ≡ nextValues (keyArrays key) S S' sheet i
+      go : (todo : Entries) → Runs key at (entryRecords todo) to → Becomes 𝓢 key S S' sheet i to sum todo →
+          sum ≡ nextValues 𝓢 (keyArrays key) S S' sheet i
       go (cells []) runs becomes = same becomes
       go (calls []) runs becomes = same becomes
       go (cells (c ∷ list)) runs becomes = absurd (ahead (cellRecord c) (entryRecords (cells list)) runs)
       go (calls (c ∷ list)) runs becomes = absurd (ahead (callRecord c) (entryRecords (calls list)) runs)
 
-  pub cells-done : (sum : Values) (at : ℕ) → to ≤ at → CellsLeft key S S' sheet i to sum at →
-      sum ≡ nextValues (keyArrays key) S S' sheet i
+  pub cells-done : (sum : ValuesOf 𝓢) (at : ℕ) → to ≤ at → CellsLeft 𝓢 key S S' sheet i to sum at →
+      sum ≡ nextValues 𝓢 (keyArrays key) S S' sheet i
   cells-done sum at l here = done (cells (here .todo)) sum at l (here .left)
 
-  pub calls-done : (sum : Values) (at : ℕ) → to ≤ at → CallsLeft key S S' sheet i to sum at →
-      sum ≡ nextValues (keyArrays key) S S' sheet i
+  pub calls-done : (sum : ValuesOf 𝓢) (at : ℕ) → to ≤ at → CallsLeft 𝓢 key S S' sheet i to sum at →
+      sum ≡ nextValues 𝓢 (keyArrays key) S S' sheet i
   calls-done sum at l here = done (calls (here .todo)) sum at l (here .left)

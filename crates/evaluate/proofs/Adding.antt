@@ -3,10 +3,10 @@ use Prim.Native.Nat.{ℕ, _+_, _<_}
 use mathlib.Core.List.{List, [], _∷_, foldl}
 use mathlib.Core.Path.{_≡_, refl, sym, ap, _∙_}
 use native.Mathlib.Omega.{arith}
-use Rattle.field.specs.Fp.{fp}
+use Rattle.field.specs.Scalars.{Scalars}
 use Rattle.records.specs.Take.{takenOutcome, takenAt}
 use Rattle.records.specs.declared.Taken.{Taken}
-use Rattle.arrays.specs.Arrays.{Values, Part, A, B, C, valueOf, Cell, Call, Entries, cells, calls, Array, arrayAt}
+use Rattle.arrays.specs.Arrays.{Part, A, B, C, valueOf, Cell, Call, Entries, cells, calls, Array, arrayAt}
 use Rattle.arrays.specs.Pass.{entriesTerms}
 use Rattle.arrays.specs.Placing.{blocks}
 use Rattle.arrays.specs.Side.{Side}
@@ -15,62 +15,73 @@ use Rattle.arrays.proofs.Parts.{value-by}
 use Rattle.key.specs.Encoding.{cellRecord, callRecord, entryRecords}
 use Rattle.key.specs.Index.{Runs}
 use Rattle.key.specs.KeyArrays.{keyArrays}
-use Rattle.evaluate.specs.Inner.{sheetValues, addedTo, Sparse, Recursive, nextValues}
+use Rattle.evaluate.specs.Embedded.{sameValuesIn}
+use Rattle.evaluate.specs.Evaluate.{ValuesOf}
+use Rattle.evaluate.specs.Inner.{sheetValues, addedTo, Sparse, Recursive, partOf, nextValues}
 
-part-added : (sum values : Values) (weight : ℕ) (part : Part) →
-    valueOf part (addedTo sum values weight) ≡ fp .add (valueOf part sum) (fp .mul (valueOf part values) weight)
-part-added sum values weight = value-by (λ part. fp .add (valueOf part sum) (fp .mul (valueOf part values) weight))
+module _ (𝓢 : Scalars) (key : List ℕ) (S S' : Side (𝓢 .arithmetic)) (sheet : List ℕ) (i to : ℕ) where
+  abbrev Element : Type 0
+  Element = 𝓢 .arithmetic .Carrier
 
-module _ (key : List ℕ) (S S' : Side fp) (sheet : List ℕ) (i to : ℕ) where
+  abbrev add : Element → Element → Element
+  add = 𝓢 .arithmetic .add
+
+  abbrev mul : Element → Element → Element
+  mul = 𝓢 .arithmetic .mul
+
+  part-added : (sum values : ValuesOf 𝓢) (weight : Element) (part : Part) →
+      valueOf part (addedTo 𝓢 sum values weight) ≡ add (valueOf part sum) (mul (valueOf part values) weight)
+  part-added sum values weight = value-by (λ part. add (valueOf part sum) (mul (valueOf part values) weight))
+
   abbrev own : Array
   own = arrayAt (keyArrays key) i
 
   -- what entries add to a part
-  abbrev terms : Part → Entries → List ℕ
+  abbrev terms : Part → Entries → List Element
   terms part entries =
-      entriesTerms fp (valueOf part) S S' (own .row-bits) (own .column-bits)
-      (keyArrays key) (λ j. valueOf part (sheetValues sheet j)) entries
+      entriesTerms (𝓢 .arithmetic) (partOf 𝓢 part) S S' (own .row-bits) (own .column-bits)
+      (keyArrays key) (λ j. valueOf part (sheetValues 𝓢 sheet j)) entries
 
   -- the value of a part that the entries from `todo` on lead to
-  abbrev pub Becomes : Values → Entries → Type 0
+  abbrev pub Becomes : ValuesOf 𝓢 → Entries → Type 0
   Becomes sum todo =
       (part : Part) →
-      foldl (fp .add) (valueOf part sum) (terms part todo) ≡ valueOf part (nextValues (keyArrays key) S S' sheet i)
+      foldl add (valueOf part sum) (terms part todo) ≡ valueOf part (nextValues 𝓢 (keyArrays key) S S' sheet i)
 
   -- entries of this array
   abbrev Fit : Entries → Type 0
   Fit todo = EntriesFit blocks blocks (keyArrays key) i (own .row-bits) (own .column-bits) todo
 
   -- at an offset, where some entries of array i are left and the sum of those before them is `sum`
-  pub record Adding (todo : Entries) (sum : Values) (at : ℕ) : Type 0 where
+  pub record Adding (todo : Entries) (sum : ValuesOf 𝓢) (at : ℕ) : Type 0 where
     pub runs : Runs key at (entryRecords todo) to
     pub fit : Fit todo
     pub becomes : Becomes sum todo
 
   -- the same where they are cells, and where they are calls
-  pub record CellsLeft (sum : Values) (at : ℕ) : Type 0 where
+  pub record CellsLeft (sum : ValuesOf 𝓢) (at : ℕ) : Type 0 where
     pub todo : List Cell
     pub left : Adding (cells todo) sum at
 
-  pub record CallsLeft (sum : Values) (at : ℕ) : Type 0 where
+  pub record CallsLeft (sum : ValuesOf 𝓢) (at : ℕ) : Type 0 where
     pub todo : List Call
     pub left : Adding (calls todo) sum at
 
   -- before the first entry
   module _ (at : ℕ) (runs : Runs key at (entryRecords (own .entries)) to) (fit : Fit (own .entries)) where
-    abbrev zeros : Values
-    zeros = record { a = 0; b = 0; c = 0 }
+    abbrev zeros : ValuesOf 𝓢
+    zeros = record { a = 𝓢 .arithmetic .nought; b = 𝓢 .arithmetic .nought; c = 𝓢 .arithmetic .nought }
 
     begun : Adding (own .entries) zeros at
     begun =
         record {
           runs = runs;
           fit = fit;
-          becomes = λ part. nought part ∙ sym (value-by (λ part. foldl (fp .add) 0 (terms part (own .entries))) part);
+          becomes = λ part. nought part ∙ sym (value-by (λ part. foldl add (𝓢 .arithmetic .nought) (terms part (own .entries))) part);
         }
       where
         nought : (part : Part) →
-            foldl (fp .add) (valueOf part zeros) (terms part (own .entries)) ≡ foldl (fp .add) 0 (terms part (own .entries))
+            foldl add (valueOf part zeros) (terms part (own .entries)) ≡ foldl add (𝓢 .arithmetic .nought) (terms part (own .entries))
         nought A = refl
         nought B = refl
         nought C = refl
@@ -90,28 +101,28 @@ module _ (key : List ℕ) (S S' : Side fp) (sheet : List ℕ) (i to : ℕ) where
         go (calls list) recursive adding = record { todo = list; left = adding }
 
   -- what the weights of a cell and of a call are
-  abbrev pub cellWeight : Cell → ℕ
-  cellWeight c = fp .mul (S .weigh (own .row-bits) (c .row)) (S' .weigh (own .column-bits) (c .column))
+  abbrev pub cellWeight : Cell → Element
+  cellWeight c = mul (S .weigh (own .row-bits) (c .row)) (S' .weigh (own .column-bits) (c .column))
 
-  abbrev pub callWeight : Call → ℕ
+  abbrev pub callWeight : Call → Element
   callWeight c =
-      fp .mul (S .factor (own .row-bits) (arrayAt (keyArrays key) (c .id) .row-bits) (c .down))
+      mul (S .factor (own .row-bits) (arrayAt (keyArrays key) (c .id) .row-bits) (c .down))
       (S' .factor (own .column-bits) (arrayAt (keyArrays key) (c .id) .column-bits) (c .right))
 
   -- the next cell, and the next call
-  pub record CellNext (sum : Values) (at : ℕ) : Type 0 where
+  pub record CellNext (sum : ValuesOf 𝓢) (at : ℕ) : Type 0 where
     pub c : Cell
     pub taken : takenAt key at ≡ takenOutcome (Taken.Record (cellRecord c) (at + 21))
     pub fits : CellFits (own .row-bits) (own .column-bits) c
-    pub onward : CellsLeft (addedTo sum (c .values) (cellWeight c)) (at + 21)
+    pub onward : CellsLeft (addedTo 𝓢 sum (sameValuesIn 𝓢 (c .values)) (cellWeight c)) (at + 21)
 
-  pub record CallNext (sum : Values) (at : ℕ) : Type 0 where
+  pub record CallNext (sum : ValuesOf 𝓢) (at : ℕ) : Type 0 where
     pub c : Call
     pub taken : takenAt key at ≡ takenOutcome (Taken.Record (callRecord c) (at + 11))
     pub fits : CallFits blocks blocks (keyArrays key) i (own .row-bits) (own .column-bits) c
-    pub onward : CallsLeft (addedTo sum (sheetValues sheet (c .id)) (callWeight c)) (at + 11)
+    pub onward : CallsLeft (addedTo 𝓢 sum (sheetValues 𝓢 sheet (c .id)) (callWeight c)) (at + 11)
 
-  pub cell-next : (sum : Values) (at : ℕ) → at < to → CellsLeft sum at → CellNext sum at
+  pub cell-next : (sum : ValuesOf 𝓢) (at : ℕ) → at < to → CellsLeft sum at → CellNext sum at
   unfolding entriesTerms
   cell-next sum at l here = go (here .todo) (here .left)
     where
@@ -128,13 +139,16 @@ module _ (key : List ℕ) (S S' : Side fp) (sheet : List ℕ) (i to : ℕ) where
                 runs = adding .runs .1;
                 fit = adding .fit .1;
                 becomes = λ part.
-                    ap (λ (x : ℕ). foldl (fp .add) x (terms part (cells list))) (part-added sum (c .values) (cellWeight c) part)
+                    ap (λ (x : Element). foldl add x (terms part (cells list)))
+                    (part-added sum (sameValuesIn 𝓢 (c .values)) (cellWeight c) part
+                    ∙ ap (λ (x : Element). add (valueOf part sum) (mul x (cellWeight c)))
+                    (value-by (λ part. partOf 𝓢 part (c .values)) part))
                     ∙ adding .becomes part;
               };
             };
           }
 
-  pub call-next : (sum : Values) (at : ℕ) → at < to → CallsLeft sum at → CallNext sum at
+  pub call-next : (sum : ValuesOf 𝓢) (at : ℕ) → at < to → CallsLeft sum at → CallNext sum at
   unfolding entriesTerms
   call-next sum at l here = go (here .todo) (here .left)
     where
@@ -151,8 +165,8 @@ module _ (key : List ℕ) (S S' : Side fp) (sheet : List ℕ) (i to : ℕ) where
                 runs = adding .runs .1;
                 fit = adding .fit .1;
                 becomes = λ part.
-                    ap (λ (x : ℕ). foldl (fp .add) x (terms part (calls list)))
-                    (part-added sum (sheetValues sheet (c .id)) (callWeight c) part)
+                    ap (λ (x : Element). foldl add x (terms part (calls list)))
+                    (part-added sum (sheetValues 𝓢 sheet (c .id)) (callWeight c) part)
                     ∙ adding .becomes part;
               };
             };

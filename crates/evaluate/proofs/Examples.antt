@@ -8,6 +8,7 @@ use Rattle.refusal.specs.Number.{numberOf}
 use Rattle.refusal.specs.Outcome.{Outcome, given, refused}
 use Rattle.algebra.specs.Arithmetic.{sumBelow}
 use Rattle.field.specs.Fp.{p}
+use Rattle.field.specs.Scalars.{prime}
 use Rattle.records.specs.Kinds.{recordOf}
 use Rattle.records.specs.Take.{takenAs, takenFrom, takenAt}
 use Rattle.records.proofs.Examples.{key}
@@ -26,7 +27,7 @@ use Rattle.evaluate.specs.Judged.{firstOver, pointJudged, placeJudged, s
 use Rattle.evaluate.specs.Sheet.{wordsBelow}
 
 -- every array's numbers, and behind them what was there
-sheet : evaluated key (3 ∷ []) (4 ∷ []) (replicate 8 9) .sheet ≡ 20 ∷ 28 ∷ 0 ∷ 2147483567 ∷ 2147483535 ∷ 0 ∷ 9 ∷ 9 ∷ []
+sheet : evaluated prime key (3 ∷ []) (4 ∷ []) (replicate 8 9) .sheet ≡ 20 ∷ 28 ∷ 0 ∷ 2147483567 ∷ 2147483535 ∷ 0 ∷ 9 ∷ 9 ∷ []
 unfolding
     concluded wordsBelow weight weighted sumBelow moved summed entriesMatrix matricesBelow
     checkedKey judged rulesOf rulesBehind firstBroken flatMap countOf readFrom readAt locatedIn takenAt takenFrom takenAs recordOf
@@ -34,7 +35,7 @@ unfolding
 sheet = refl
 
 -- the two calls both put the cell at row 0 and column 1
-abbrev answer : Evaluation → Outcome Values
+abbrev answer : Evaluation prime → Outcome Values
 answer e = e .answer
 
 cells :
@@ -59,23 +60,23 @@ cell-sheet = refl
 
 -- ---- refusals, in the order of the numbers: each call's later faults do not count
 
-abbrev refusals : List Evaluation
+abbrev refusals : List (Evaluation prime)
 refusals =
     -- the empty key
-    evaluated [] [] [] [] ∷
+    evaluated prime [] [] [] [] ∷
     -- no row coordinate, and two
-    evaluated key [] [] [] ∷
-    evaluated key (p ∷ p ∷ []) [] [] ∷
+    evaluated prime key [] [] [] ∷
+    evaluated prime key (p ∷ p ∷ []) [] [] ∷
     -- no column coordinate
-    evaluated key (p ∷ []) [] [] ∷
+    evaluated prime key (p ∷ []) [] [] ∷
     -- coordinates p or more, the row first
-    evaluated key (p ∷ []) (p ∷ []) [] ∷
-    evaluated key ((p - 1) ∷ []) (p ∷ []) [] ∷
+    evaluated prime key (p ∷ []) (p ∷ []) [] ∷
+    evaluated prime key ((p - 1) ∷ []) (p ∷ []) [] ∷
     -- a row and a column outside the last array
     celled key 2 2 [] ∷
     celled key 1 2 [] ∷
     -- sheets one place too short
-    evaluated key (3 ∷ []) (4 ∷ []) (replicate 5 9) ∷
+    evaluated prime key (3 ∷ []) (4 ∷ []) (replicate 5 9) ∷
     celled key 1 1 (replicate 5 9) ∷ []
 
 refused-all :
@@ -88,7 +89,7 @@ unfolding
     firstOver pointJudged placeJudged sheetJudged numberOf
 refused-all = refl
 
-untouched : map (λ (e : Evaluation). e .sheet) refusals ≡ [] ∷ [] ∷ [] ∷ [] ∷ [] ∷ [] ∷ [] ∷ [] ∷ replicate 5 9 ∷ replicate 5 9 ∷ []
+untouched : map (λ (e : Evaluation prime). e .sheet) refusals ≡ [] ∷ [] ∷ [] ∷ [] ∷ [] ∷ [] ∷ [] ∷ [] ∷ replicate 5 9 ∷ replicate 5 9 ∷ []
 unfolding
     concluded checkedKey judged rulesOf rulesBehind firstBroken flatMap countOf readFrom readAt takenAt takenFrom takenAs recordOf
     firstOver pointJudged placeJudged sheetJudged numberOf

@@ -2,6 +2,7 @@ pub mod FirstOver
 pub mod Judgements
 pub mod Filling
 pub mod Sheets
+pub mod Words
 pub mod Indexing
 pub mod Sums
 pub mod Adding
@@ -10,6 +11,7 @@ pub mod Turns
 pub mod Passing
 pub mod Extended
 pub mod Passed
+pub mod Prepared
 pub mod Admission
 pub mod InTurn
 pub mod Concluded
@@ -18,3 +20,4 @@ pub mod Answers
 pub mod PlaceByPlace
 pub mod CellSheet
 pub mod Examples
+pub mod Embedded

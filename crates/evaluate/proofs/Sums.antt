@@ -4,6 +4,7 @@ use mathlib.Core.Path.{_≡_, ap, _∙_}
 use native.Mathlib.Nat.{mul-comm}
 use native.Mathlib.Omega.{arith}
 use Rattle.field.specs.Fp.{p, fp}
+use Rattle.field.specs.Scalars.{prime}
 use Rattle.arrays.specs.Arrays.{Values}
 use Rattle.evaluate.specs.declared.entry.Sums.{Sums}
 use Rattle.evaluate.specs.Inner.{reducedIn, Light, Grown, addedTo}
@@ -36,7 +37,7 @@ rest-of-sum s x m e = omega arith
 
 pub grown : (sums : Sums) (values : Values) (weight x y z : ℕ) →
     Product weight (values .a) x → Product weight (values .b) y → Product weight (values .c) z →
-    Grown sums (addedTo (reducedIn sums) values weight) (record { a = sums .a + x; b = sums .b + y; c = sums .c + z })
+    Grown sums (addedTo prime (reducedIn sums) values weight) (record { a = sums .a + x; b = sums .b + y; c = sums .c + z })
 grown sums values weight x y z of-a of-b of-c =
     let a = rest-of-sum (sums .a) x (fp .mul (values .a) weight) (turned (values .a) x of-a) in
     let b = rest-of-sum (sums .b) y (fp .mul (values .b) weight) (turned (values .b) y of-b) in

@@ -5,19 +5,24 @@ use mathlib.Core.Path.{_≡_}
 use lib.ListN.{length, getD}
 use Rattle.refusal.specs.Outcome.{given}
 use Rattle.algebra.specs.Points.{Below}
-use Rattle.field.specs.Fp.{p, fp}
+use Rattle.field.specs.Fp.{p}
+use Rattle.field.specs.Scalars.{Scalars, elementAt}
 use Rattle.records.specs.declared.Call.{Call as CallRecord}
 use Rattle.records.specs.declared.Cell.{Cell as CellRecord}
 use Rattle.records.specs.declared.Shape.{Shape}
-use Rattle.arrays.specs.Arrays.{Values, valueOf, valuesBy, Entries, cells, calls, Array, arrayAt}
+use Rattle.arrays.specs.Arrays.{Values, Part, valueOf, valuesBy, Entries, cells, calls, Array, arrayAt}
 use Rattle.arrays.specs.Pass.{arrayValue, valueAt, valuesBelow}
 use Rattle.arrays.specs.Side.{Side}
 use Rattle.weights.specs.Side.{ForSide, Reaches}
+use Rattle.weights.specs.Words.{Words}
 use Rattle.key.specs.Check.{checkedKey}
 use Rattle.key.specs.Index.{startsOf}
 use Rattle.key.specs.KeyArrays.{cellIn, keyArrays}
 use Rattle.key.specs.declared.Checked.{Checked}
 use Rattle.key.specs.declared.Counts.{Counts}
+use Rattle.evaluate.specs.Embedded.{sameValuesIn}
+use Rattle.evaluate.specs.Evaluate.{ValuesOf}
+use Rattle.evaluate.specs.Sheet.{placesOf}
 use Rattle.evaluate.specs.declared.entry.Sums.{Sums}
 
 -- an accepted key has at most 1,024 arrays
@@ -25,16 +30,17 @@ abbrev pub FewArrays : Checked → Type 0
 FewArrays (Checked.Accepted counts) = counts .arrays ≤ 1024
 FewArrays (Checked.Refused f) = Unit {0}
 
--- each of the three is below p
-pub record ValuesBelow (values : Values) : Type 0 where
-  pub a-below : values .a < p
-  pub b-below : values .b < p
-  pub c-below : values .c < p
+-- the numbers of each of the three are below p
+pub record ValuesBelow (𝓢 : Scalars) (values : ValuesOf 𝓢) : Type 0 where
+  pub a-below : Below p (𝓢 .numbers (values .a))
+  pub b-below : Below p (𝓢 .numbers (values .b))
+  pub c-below : Below p (𝓢 .numbers (values .c))
 
--- coordinates for one side of arrays of at most n bits: enough of them, at most 30, and each below p
-pub record Coordinates (n : ℕ) (numbers : List ℕ) : Type 0 where
-  pub enough : n ≤ length numbers
-  pub few : length numbers ≤ 30
+-- coordinates for one side of arrays of at most n bits: enough of them, at most 30, no number beyond them, and each number below p
+pub record Coordinates (𝓢 : Scalars) (n : ℕ) (numbers : List ℕ) : Type 0 where
+  pub whole : length numbers ≡ 𝓢 .width * length (𝓢 .elements numbers)
+  pub enough : n ≤ length (𝓢 .elements numbers)
+  pub few : length (𝓢 .elements numbers) ≤ 30
   pub below : Below p numbers
 
 -- an accepted key, with a table whose first places hold the offsets of its arrays
@@ -45,34 +51,35 @@ pub record Indexed (key starts : List ℕ) : Type 0 where
   pub offsets : (i : ℕ) → i < length (keyArrays key) → getD starts i 0 ≡ getD (startsOf key) i 0
 
 -- a point for such a key
-pub record AtPoint (key rows columns : List ℕ) : Type 0 where
+pub record AtPoint (𝓢 : Scalars) (key rows columns : List ℕ) : Type 0 where
   pub counts : Counts
   pub accepted : checkedKey key ≡ given counts
-  pub rows-given : Coordinates (counts .rows) rows
-  pub columns-given : Coordinates (counts .columns) columns
+  pub rows-given : Coordinates 𝓢 (counts .rows) rows
+  pub columns-given : Coordinates 𝓢 (counts .columns) columns
 
 -- the tables of the two sides of a point for such a key, which have as many coordinates as `most` has bits
-pub record Sides (key : List ℕ) (most : Shape) (rowwise columnwise : List ℕ) : Type 0 where
+pub record Sides (𝓦 : Words) (key : List ℕ) (most : Shape) (rowwise columnwise : List ℕ) : Type 0 where
   pub counts : Counts
   pub accepted : checkedKey key ≡ given counts
   pub rows-enough : counts .rows ≤ most .rows
   pub columns-enough : counts .columns ≤ most .columns
-  pub rows-ready : ForSide (most .rows) rowwise
-  pub columns-ready : ForSide (most .columns) columnwise
+  pub rows-ready : ForSide 𝓦 (most .rows) rowwise
+  pub columns-ready : ForSide 𝓦 (most .columns) columnwise
 
 -- how far weights of array i's entries may be taken by the tables of the two sides
-pub record ReachedIn (arrays : List Array) (i : ℕ) (reached : Shape) (rowwise columnwise : List ℕ) : Type 0 where
-  pub rows-reached : Reaches rowwise (arrayAt arrays i .row-bits) (reached .rows)
-  pub columns-reached : Reaches columnwise (arrayAt arrays i .column-bits) (reached .columns)
+pub record ReachedIn (𝓦 : Words) (arrays : List Array) (i : ℕ) (reached : Shape) (rowwise columnwise : List ℕ) : Type 0 where
+  pub rows-reached : Reaches 𝓦 rowwise (arrayAt arrays i .row-bits) (reached .rows)
+  pub columns-reached : Reaches 𝓦 columnwise (arrayAt arrays i .column-bits) (reached .columns)
 
 -- the values of array i on a sheet
-abbrev pub sheetValues : List ℕ → ℕ → Values
-sheetValues sheet i = record { a = getD sheet (3 * i) 0; b = getD sheet (3 * i + 1) 0; c = getD sheet (3 * i + 2) 0 }
+abbrev pub sheetValues : (𝓢 : Scalars) → List ℕ → ℕ → ValuesOf 𝓢
+sheetValues 𝓢 sheet i =
+    record { a = elementAt 𝓢 sheet (3 * i); b = elementAt 𝓢 sheet (3 * i + 1); c = elementAt 𝓢 sheet (3 * i + 2) }
 
--- a sheet has places for i arrays, and each of the arrays before i has values below p there
-pub record Filled (i : ℕ) (sheet : List ℕ) : Type 0 where
-  pub room : 3 * i ≤ length sheet
-  pub below : (j : ℕ) → j < i → ValuesBelow (sheetValues sheet j)
+-- a sheet has places for i arrays, and each of the arrays before i has values of numbers below p there
+pub record Filled (𝓢 : Scalars) (i : ℕ) (sheet : List ℕ) : Type 0 where
+  pub room : placesOf 𝓢 * i ≤ length sheet
+  pub below : (j : ℕ) → j < i → ValuesBelow 𝓢 (sheetValues 𝓢 sheet j)
 
 -- the three remainders of sums that are not reduced yet
 abbrev pub reducedIn : Sums → Values
@@ -92,26 +99,31 @@ pub record Grown (sums : Sums) (values : Values) (more : Sums) : Type 0 where
   pub c-most : more .c < sums .c + 17179869184
 
 -- a sum with weighed values added to it
-abbrev pub addedTo : Values → Values → ℕ → Values
-addedTo sum values weight = valuesBy (λ part. fp .add (valueOf part sum) (fp .mul (valueOf part values) weight))
+abbrev pub addedTo : (𝓢 : Scalars) → ValuesOf 𝓢 → ValuesOf 𝓢 → 𝓢 .arithmetic .Carrier → ValuesOf 𝓢
+addedTo 𝓢 sum values weight =
+    valuesBy (λ part. 𝓢 .arithmetic .add (valueOf part sum) (𝓢 .arithmetic .mul (valueOf part values) weight))
 
 -- a sum with a cell added to it, of an array of k row bits and k' column bits
-abbrev pub cellAdded : Side fp → Side fp → ℕ → ℕ → Values → CellRecord → Values
-cellAdded S S' k k' sum c = addedTo sum (cellIn c .values) (fp .mul (S .weigh k (c .row)) (S' .weigh k' (c .column)))
+abbrev pub cellAdded : (𝓢 : Scalars) → Side (𝓢 .arithmetic) → Side (𝓢 .arithmetic) → ℕ → ℕ → ValuesOf 𝓢 → CellRecord → ValuesOf 𝓢
+cellAdded 𝓢 S S' k k' sum c =
+    addedTo 𝓢 sum (sameValuesIn 𝓢 (cellIn c .values))
+    (𝓢 .arithmetic .mul (S .weigh k (c .row)) (S' .weigh k' (c .column)))
 
 -- a sum with a call from such an array added to it, where the called array's values stand on a sheet
-abbrev pub callAdded : List Array → Side fp → Side fp → List ℕ → ℕ → ℕ → Values → CallRecord → Values
-callAdded arrays S S' sheet k k' sum c =
-    addedTo sum (sheetValues sheet (c .id))
-    (fp .mul (S .factor k (arrayAt arrays (c .id) .row-bits) (c .down)) (S' .factor k' (arrayAt arrays (c .id) .column-bits) (c .right)))
+abbrev pub callAdded : (𝓢 : Scalars) → List Array → Side (𝓢 .arithmetic) → Side (𝓢 .arithmetic) → List ℕ → ℕ → ℕ → ValuesOf 𝓢 →
+    CallRecord → ValuesOf 𝓢
+callAdded 𝓢 arrays S S' sheet k k' sum c =
+    addedTo 𝓢 sum (sheetValues 𝓢 sheet (c .id))
+    (𝓢 .arithmetic .mul (S .factor k (arrayAt arrays (c .id) .row-bits) (c .down))
+    (S' .factor k' (arrayAt arrays (c .id) .column-bits) (c .right)))
 
 -- a call of an array of at most so many bits, whose values stand on a sheet
-pub record Called (arrays : List Array) (sheet : List ℕ) (shape : Shape) (c : CallRecord) : Type 0 where
+pub record Called (𝓢 : Scalars) (arrays : List Array) (sheet : List ℕ) (shape : Shape) (c : CallRecord) : Type 0 where
   pub there : c .id < length arrays
   pub rows-fit : arrayAt arrays (c .id) .row-bits ≤ shape .rows
   pub columns-fit : arrayAt arrays (c .id) .column-bits ≤ shape .columns
-  pub on-sheet : 3 * suc (c .id) ≤ length sheet
-  pub below : ValuesBelow (sheetValues sheet (c .id))
+  pub on-sheet : placesOf 𝓢 * suc (c .id) ≤ length sheet
+  pub below : ValuesBelow 𝓢 (sheetValues 𝓢 sheet (c .id))
 
 -- the entries of a sparse array, and those of a recursive one
 abbrev pub Sparse : Entries → Type 0
@@ -126,11 +138,18 @@ Recursive (calls list) = Unit {0}
 abbrev pub shapeAt : List Array → ℕ → Shape
 shapeAt arrays i = record { rows = arrayAt arrays i .row-bits; columns = arrayAt arrays i .column-bits }
 
+-- the value of a cell that is taken for a part
+abbrev pub partOf : (𝓢 : Scalars) → Part → Values → 𝓢 .arithmetic .Carrier
+partOf 𝓢 part values = 𝓢 .embed (valueOf part values)
+
 -- the values of array i by the pass, where the values of the arrays before stand on a sheet
-abbrev pub nextValues : List Array → Side fp → Side fp → List ℕ → ℕ → Values
-nextValues arrays S S' sheet i =
-    valuesBy (λ part. arrayValue fp (valueOf part) S S' arrays (λ j. valueOf part (sheetValues sheet j)) (arrayAt arrays i))
+abbrev pub nextValues : (𝓢 : Scalars) → List Array → Side (𝓢 .arithmetic) → Side (𝓢 .arithmetic) → List ℕ → ℕ → ValuesOf 𝓢
+nextValues 𝓢 arrays S S' sheet i =
+    valuesBy (λ part.
+    arrayValue (𝓢 .arithmetic) (partOf 𝓢 part) S S' arrays (λ j. valueOf part (sheetValues 𝓢 sheet j)) (arrayAt arrays i))
 
 -- the values of array i by the pass
-abbrev pub passedValues : List Array → Side fp → Side fp → ℕ → Values
-passedValues arrays S S' i = valuesBy (λ part. valueAt fp (valuesBelow fp (valueOf part) S S' arrays (length arrays)) i)
+abbrev pub passedValues : (𝓢 : Scalars) → List Array → Side (𝓢 .arithmetic) → Side (𝓢 .arithmetic) → ℕ → ValuesOf 𝓢
+passedValues 𝓢 arrays S S' i =
+    valuesBy (λ part.
+    valueAt (𝓢 .arithmetic) (valuesBelow (𝓢 .arithmetic) (partOf 𝓢 part) S S' arrays (length arrays)) i)

@@ -16,11 +16,11 @@ unfoldable pub firstOver : List ℕ → ℕ
 firstOver [] = 0
 firstOver (r ∷ numbers) = cond (leb p r) 0 (suc (firstOver numbers))
 
--- a point: as many row coordinates as n, as many column coordinates as n', each below p, the rows first
-unfoldable pub pointJudged : List ℕ → List ℕ → Counts → Outcome Counts
-pointJudged rows columns counts =
-    cond (not (eqb (length rows) (counts .rows))) (refuse Reason.RowCountWrong (length rows))
-    (cond (not (eqb (length columns) (counts .columns))) (refuse Reason.ColumnCountWrong (length columns))
+-- a point, where each coordinate takes `width` numbers: n row coordinates, n' column coordinates, each number below p, the rows first
+unfoldable pub pointJudged : ℕ → List ℕ → List ℕ → Counts → Outcome Counts
+pointJudged width rows columns counts =
+    cond (not (eqb (length rows) (width * counts .rows))) (refuse Reason.RowCountWrong (length rows))
+    (cond (not (eqb (length columns) (width * counts .columns))) (refuse Reason.ColumnCountWrong (length columns))
     (cond (ltb (firstOver (rows ++ columns)) (length (rows ++ columns)))
     (refuse Reason.CoordinateTooGreat (firstOver (rows ++ columns)))
     (given counts)))
@@ -32,7 +32,7 @@ placeJudged row column counts =
     (cond (outside (counts .columns) column) (refuse Reason.AddressOutside 1)
     (given counts))
 
--- a sheet of so many places, where each array takes `width` of them
+-- a sheet of so many places, where each array takes `each` of them
 unfoldable pub sheetJudged : ℕ → ℕ → Counts → Outcome Counts
-sheetJudged width places counts =
-    cond (ltb places (width * counts .arrays)) (refuse Reason.SheetTooShort (width * counts .arrays)) (given counts)
+sheetJudged each places counts =
+    cond (ltb places (each * counts .arrays)) (refuse Reason.SheetTooShort (each * counts .arrays)) (given counts)

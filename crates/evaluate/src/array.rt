@@ -10,15 +10,17 @@ ghost use mathlib.Core.Path.{_≡_};
 ghost use mathlib.Core.List.{List, [], _∷_, _++_};
 ghost use Prim.Native.Nat.{ℕ, _+_, _-_, _<_};
 ghost use lib.ListN.{length, getD};
+ghost use Rattle.field.specs.Scalars.{prime};
 ghost use Rattle.arrays.specs.Arrays.{arrayAt};
 ghost use Rattle.weights.specs.Side.{prepared};
+ghost use Rattle.weights.specs.Words.{singles};
 ghost use Rattle.key.specs.Index.{startsOf};
 ghost use Rattle.key.specs.KeyArrays.{keyArrays};
 ghost use Rattle.evaluate.specs.Evaluate.{valuesIn};
 ghost use Rattle.evaluate.specs.Inner.{Indexed, Sides, ReachedIn, Sparse, Recursive, Filled, reducedIn, shapeAt, nextValues};
 
 // The shape of array i: the two bytes behind its opening's kind. Inner: the key is accepted and indexed, and has such an array.
-pub(crate) fn shape(key: &[u8], starts: &[u16], i: usize) -> Shape
+pub fn shape(key: &[u8], starts: &[u16], i: usize) -> Shape
     requires { ⌜ Indexed (now key) (now starts) ⌝ }
     requires { ⌜ i < length (keyArrays (now key)) ⌝ }
     ensures { λ r. ⌜ r ≡ shapeAt (keyArrays (now (key .entry))) i ⌝ }
@@ -42,9 +44,9 @@ pub(crate) fn values(
     requires { ⌜ Indexed (now key) (now starts) ⌝ }
     requires { ⌜ arrays ≡ length (keyArrays (now key)) ⌝ }
     requires { ⌜ i < arrays ⌝ }
-    requires { ⌜ Sides (now key) most (now rowwise) (now columnwise) ⌝ }
-    requires { ⌜ Filled i (now sheet) ⌝ }
-    ensures { λ r. ⌜ valuesIn r ≡ nextValues (keyArrays (now (key .entry))) (prepared (now (rowwise .entry))) (prepared (now (columnwise .entry))) (now (sheet .entry)) i ⌝ }
+    requires { ⌜ Sides singles (now key) most (now rowwise) (now columnwise) ⌝ }
+    requires { ⌜ Filled prime i (now sheet) ⌝ }
+    ensures { λ r. ⌜ valuesIn r ≡ nextValues prime (keyArrays (now (key .entry))) (prepared singles (now (rowwise .entry))) (prepared singles (now (columnwise .entry))) (now (sheet .entry)) i ⌝ }
 {
     let own = shape(key, starts, i);
     let reached = Shape {
@@ -73,9 +75,9 @@ fn total(
     requires { ⌜ Indexed (now key) (now starts) ⌝ }
     requires { ⌜ arrays ≡ length (keyArrays (now key)) ⌝ }
     requires { ⌜ i < arrays ⌝ }
-    requires { ⌜ ReachedIn (keyArrays (now key)) i reached (now rowwise) (now columnwise) ⌝ }
-    requires { ⌜ Filled i (now sheet) ⌝ }
-    ensures { λ r. ⌜ reducedIn r ≡ nextValues (keyArrays (now (key .entry))) (prepared (now (rowwise .entry))) (prepared (now (columnwise .entry))) (now (sheet .entry)) i ⌝ }
+    requires { ⌜ ReachedIn singles (keyArrays (now key)) i reached (now rowwise) (now columnwise) ⌝ }
+    requires { ⌜ Filled prime i (now sheet) ⌝ }
+    ensures { λ r. ⌜ reducedIn r ≡ nextValues prime (keyArrays (now (key .entry))) (prepared singles (now (rowwise .entry))) (prepared singles (now (columnwise .entry))) (now (sheet .entry)) i ⌝ }
 {
     let opening = starts[i] as usize;
     if key[opening] == 2 {
@@ -99,8 +101,8 @@ fn cells(
     requires { ⌜ arrays ≡ length (keyArrays (now key)) ⌝ }
     requires { ⌜ i < arrays ⌝ }
     requires { ⌜ Sparse (arrayAt (keyArrays (now key)) i .entries) ⌝ }
-    requires { ⌜ ReachedIn (keyArrays (now key)) i reached (now rowwise) (now columnwise) ⌝ }
-    ensures { λ r. ⌜ ((sheet : List ℕ) → reducedIn r ≡ nextValues (keyArrays (now (key .entry))) (prepared (now (rowwise .entry))) (prepared (now (columnwise .entry))) sheet i) ⌝ }
+    requires { ⌜ ReachedIn singles (keyArrays (now key)) i reached (now rowwise) (now columnwise) ⌝ }
+    ensures { λ r. ⌜ ((sheet : List ℕ) → reducedIn r ≡ nextValues prime (keyArrays (now (key .entry))) (prepared singles (now (rowwise .entry))) (prepared singles (now (columnwise .entry))) sheet i) ⌝ }
 {
     let to = behind(key, starts, arrays, i);
     let mut sums = Sums { a: 0, b: 0, c: 0 };
@@ -128,9 +130,9 @@ fn calls(
     requires { ⌜ arrays ≡ length (keyArrays (now key)) ⌝ }
     requires { ⌜ i < arrays ⌝ }
     requires { ⌜ Recursive (arrayAt (keyArrays (now key)) i .entries) ⌝ }
-    requires { ⌜ ReachedIn (keyArrays (now key)) i reached (now rowwise) (now columnwise) ⌝ }
-    requires { ⌜ Filled i (now sheet) ⌝ }
-    ensures { λ r. ⌜ reducedIn r ≡ nextValues (keyArrays (now (key .entry))) (prepared (now (rowwise .entry))) (prepared (now (columnwise .entry))) (now (sheet .entry)) i ⌝ }
+    requires { ⌜ ReachedIn singles (keyArrays (now key)) i reached (now rowwise) (now columnwise) ⌝ }
+    requires { ⌜ Filled prime i (now sheet) ⌝ }
+    ensures { λ r. ⌜ reducedIn r ≡ nextValues prime (keyArrays (now (key .entry))) (prepared singles (now (rowwise .entry))) (prepared singles (now (columnwise .entry))) (now (sheet .entry)) i ⌝ }
 {
     let to = behind(key, starts, arrays, i);
     let mut sums = Sums { a: 0, b: 0, c: 0 };
@@ -145,7 +147,7 @@ fn calls(
 
 // The offset behind array i's entries, in a key that has so many arrays: that of the next opening or of the end. Inner: the key
 // is accepted and indexed, and has such an array.
-pub(crate) fn behind(key: &[u8], starts: &[u16], arrays: usize, i: usize) -> usize
+pub fn behind(key: &[u8], starts: &[u16], arrays: usize, i: usize) -> usize
     requires { ⌜ Indexed (now key) (now starts) ⌝ }
     requires { ⌜ arrays ≡ length (keyArrays (now key)) ⌝ }
     requires { ⌜ i < arrays ⌝ }

@@ -9,28 +9,30 @@ ghost use Rattle.refusal.specs.Outcome.{andThen};
 ghost use Rattle.key.specs.Check.{checkedOutcome};
 ghost use Rattle.evaluate.specs.Inner.{FewArrays};
 ghost use Rattle.evaluate.specs.Judged.{firstOver, pointJudged, placeJudged, sheetJudged};
-ghost use Rattle.evaluate.specs.Sheet.{width};
 
-// The numbers of rows and columns that a point must have, and its coordinates. Inner: it requires nothing.
-pub fn point(checked: Checked, rows: &[u32], columns: &[u32]) -> Checked
-    ensures { λ r. ⌜ checkedOutcome r ≡ andThen (checkedOutcome checked) (pointJudged (now (rows .entry)) (now (columns .entry))) ⌝ }
+// The numbers of rows and columns that a point must have, where a coordinate takes `width` numbers, and that each is below p. Inner: a
+// coordinate takes at most two.
+pub fn point(checked: Checked, width: usize, rows: &[u32], columns: &[u32]) -> Checked
+    requires { ⌜ width ≤ 2 ⌝ }
+    ensures { λ r. ⌜ checkedOutcome r ≡ andThen (checkedOutcome checked) (pointJudged width (now (rows .entry)) (now (columns .entry))) ⌝ }
 {
     match checked {
         Checked::Refused(refusal) => Checked::Refused(refusal),
-        Checked::Accepted(counts) => point_of(counts, rows, columns),
+        Checked::Accepted(counts) => point_of(counts, width, rows, columns),
     }
 }
 
-// A point for a key of these counts.
-fn point_of(counts: Counts, rows: &[u32], columns: &[u32]) -> Checked
-    ensures { λ r. ⌜ checkedOutcome r ≡ pointJudged (now (rows .entry)) (now (columns .entry)) counts ⌝ }
+// A point for a key of these counts. Inner: likewise.
+fn point_of(counts: Counts, width: usize, rows: &[u32], columns: &[u32]) -> Checked
+    requires { ⌜ width ≤ 2 ⌝ }
+    ensures { λ r. ⌜ checkedOutcome r ≡ pointJudged width (now (rows .entry)) (now (columns .entry)) counts ⌝ }
 {
     let row_count = rows.len();
     let column_count = columns.len();
-    if row_count != counts.rows as usize {
+    if row_count != width * counts.rows as usize {
         return key::refused(Reason::RowCountWrong, row_count);
     }
-    if column_count != counts.columns as usize {
+    if column_count != width * counts.columns as usize {
         return key::refused(Reason::ColumnCountWrong, column_count);
     }
     let row = first_over(rows);
@@ -67,23 +69,24 @@ fn place_of(counts: Counts, row: u32, column: u32) -> Checked
     Checked::Accepted(counts)
 }
 
-// The number of places that a sheet must have. Inner: the key has no more arrays than a key may have.
-pub fn sheet(checked: Checked, places: usize) -> Checked
-    requires { ⌜ FewArrays checked ⌝ }
-    ensures { λ r. ⌜ checkedOutcome r ≡ andThen (checkedOutcome checked) (sheetJudged width places) ⌝ }
+// The number of places that a sheet must have, where an array takes `each` of them. Inner: it takes at most six, and the key has no more
+// arrays than a key may have.
+pub fn sheet(checked: Checked, each: usize, places: usize) -> Checked
+    requires { ⌜ (each ≤ 6) × FewArrays checked ⌝ }
+    ensures { λ r. ⌜ checkedOutcome r ≡ andThen (checkedOutcome checked) (sheetJudged each places) ⌝ }
 {
     match checked {
         Checked::Refused(refusal) => Checked::Refused(refusal),
-        Checked::Accepted(counts) => sheet_of(counts, places),
+        Checked::Accepted(counts) => sheet_of(counts, each, places),
     }
 }
 
 // A sheet of so many places for a key of these counts. Inner: likewise.
-fn sheet_of(counts: Counts, places: usize) -> Checked
-    requires { ⌜ counts .arrays ≤ 1024 ⌝ }
-    ensures { λ r. ⌜ checkedOutcome r ≡ sheetJudged width places counts ⌝ }
+fn sheet_of(counts: Counts, each: usize, places: usize) -> Checked
+    requires { ⌜ (each ≤ 6) × (counts .arrays ≤ 1024) ⌝ }
+    ensures { λ r. ⌜ checkedOutcome r ≡ sheetJudged each places counts ⌝ }
 {
-    let needed = 3 * counts.arrays;
+    let needed = each * counts.arrays;
     if places < needed {
         return key::refused(Reason::SheetTooShort, needed);
     }

@@ -1,5 +1,5 @@
 // An accepted key evaluated at a point (01, 'Dense form and evaluation'), and single cells of its last array.
-mod array;
+pub mod array;
 mod entry;
 pub mod judge;
 pub mod pass;
@@ -13,6 +13,7 @@ use refusal::Refusal;
 ghost use mathlib.Core.Path.{_≡_};
 ghost use Prim.Native.Nat.{min, _/_, _≤_};
 ghost use lib.ListN.{length};
+ghost use Rattle.field.specs.Scalars.{prime};
 ghost use Rattle.evaluate.specs.Cell.{celled};
 ghost use Rattle.evaluate.specs.Evaluate.{evaluatedOutcome, evaluated};
 
@@ -34,8 +35,8 @@ pub enum Evaluated {
 // The last array's A, B and C at a point: the multilinear extensions of its dense matrices. The sheet then holds every array's
 // three numbers, those of array i from place 3i on; places behind them stay, and a refused call leaves the whole sheet.
 pub fn evaluate(key: &[u8], rows: &[u32], columns: &[u32], sheet: &mut [u32]) -> Evaluated
-    ensures answer { λ r. ⌜ evaluatedOutcome r ≡ evaluated (now (key .entry)) (now (rows .entry)) (now (columns .entry)) (now (sheet .entry)) .answer ⌝ }
-    ensures sheet { λ _. ⌜ now (sheet .exit) ≡ evaluated (now (key .entry)) (now (rows .entry)) (now (columns .entry)) (now (sheet .entry)) .sheet ⌝ }
+    ensures answer { λ r. ⌜ evaluatedOutcome r ≡ evaluated prime (now (key .entry)) (now (rows .entry)) (now (columns .entry)) (now (sheet .entry)) .answer ⌝ }
+    ensures sheet { λ _. ⌜ now (sheet .exit) ≡ evaluated prime (now (key .entry)) (now (rows .entry)) (now (columns .entry)) (now (sheet .entry)) .sheet ⌝ }
 {
     if key.len() < key::SHORT {
         let mut short = [0u16; key::SHORT_ARRAYS];
@@ -57,12 +58,12 @@ fn at_point(
     starts: &mut [u16],
 ) -> Evaluated
     requires { ⌜ min 1024 (length (now key) / 3) ≤ length (now starts) ⌝ }
-    ensures answer { λ r. ⌜ evaluatedOutcome r ≡ evaluated (now (key .entry)) (now (rows .entry)) (now (columns .entry)) (now (sheet .entry)) .answer ⌝ }
-    ensures sheet { λ _. ⌜ now (sheet .exit) ≡ evaluated (now (key .entry)) (now (rows .entry)) (now (columns .entry)) (now (sheet .entry)) .sheet ⌝ }
+    ensures answer { λ r. ⌜ evaluatedOutcome r ≡ evaluated prime (now (key .entry)) (now (rows .entry)) (now (columns .entry)) (now (sheet .entry)) .answer ⌝ }
+    ensures sheet { λ _. ⌜ now (sheet .exit) ≡ evaluated prime (now (key .entry)) (now (rows .entry)) (now (columns .entry)) (now (sheet .entry)) .sheet ⌝ }
 {
     let checked = key::index(&*key, starts);
-    let pointed = judge::point(checked, &*rows, &*columns);
-    let judged = judge::sheet(pointed, sheet.len());
+    let pointed = judge::point(checked, 1, &*rows, &*columns);
+    let judged = judge::sheet(pointed, 3, sheet.len());
     match judged {
         Checked::Refused(refusal) => Evaluated::Refused(refusal),
         Checked::Accepted(counts) => {
@@ -94,7 +95,7 @@ fn at_place(key: &[u8], row: u32, column: u32, sheet: &mut [u32], starts: &mut [
 {
     let checked = key::index(&*key, starts);
     let placed = judge::place(checked, row, column);
-    let judged = judge::sheet(placed, sheet.len());
+    let judged = judge::sheet(placed, 3, sheet.len());
     match judged {
         Checked::Refused(refusal) => Evaluated::Refused(refusal),
         Checked::Accepted(counts) => {

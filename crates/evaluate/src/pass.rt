@@ -8,7 +8,9 @@ use weights::table;
 ghost use mathlib.Core.Path.{_≡_};
 ghost use Prim.Native.Nat.{_*_, _-_, _<_, _≤_};
 ghost use lib.ListN.{length};
+ghost use Rattle.field.specs.Scalars.{prime};
 ghost use Rattle.weights.specs.Side.{prepared, Ready};
+ghost use Rattle.weights.specs.Words.{singles};
 ghost use Rattle.key.specs.KeyArrays.{keyArrays};
 ghost use Rattle.evaluate.specs.Evaluate.{valuesIn, valuesAt};
 ghost use Rattle.evaluate.specs.Inner.{Indexed, AtPoint, Sides, Filled, sheetValues, passedValues};
@@ -29,9 +31,9 @@ pub fn run(
 )
     requires { ⌜ Indexed (now key) (now starts) ⌝ }
     requires { ⌜ arrays ≡ length (keyArrays (now key)) ⌝ }
-    requires { ⌜ AtPoint (now key) (now rows) (now columns) ⌝ }
+    requires { ⌜ AtPoint prime (now key) (now rows) (now columns) ⌝ }
     requires { ⌜ 3 * arrays ≤ length (now sheet) ⌝ }
-    ensures { λ _. ⌜ now (sheet .exit) ≡ laid 0 (λ i. wordsOf (valuesAt (keyArrays (now (key .entry))) (now (rows .entry)) (now (columns .entry)) i)) arrays (now (sheet .entry)) ⌝ }
+    ensures { λ _. ⌜ now (sheet .exit) ≡ laid 0 (λ i. wordsOf prime (valuesAt prime (keyArrays (now (key .entry))) (now (rows .entry)) (now (columns .entry)) i)) arrays (now (sheet .entry)) ⌝ }
 {
     let saved = work::saved(&*key, &*starts, arrays);
     if work::limbs_pay(saved, rows.len() + columns.len()) {
@@ -75,10 +77,10 @@ fn by_sides(
 )
     requires { ⌜ Indexed (now key) (now starts) ⌝ }
     requires { ⌜ arrays ≡ length (keyArrays (now key)) ⌝ }
-    requires { ⌜ AtPoint (now key) (now rows) (now columns) ⌝ }
+    requires { ⌜ AtPoint prime (now key) (now rows) (now columns) ⌝ }
     requires { ⌜ 3 * arrays ≤ length (now sheet) ⌝ }
-    requires { ⌜ Ready (now rowwise) × Ready (now columnwise) ⌝ }
-    ensures { λ _. ⌜ now (sheet .exit) ≡ laid 0 (λ i. wordsOf (valuesAt (keyArrays (now (key .entry))) (now (rows .entry)) (now (columns .entry)) i)) arrays (now (sheet .entry)) ⌝ }
+    requires { ⌜ Ready singles (now rowwise) × Ready singles (now columnwise) ⌝ }
+    ensures { λ _. ⌜ now (sheet .exit) ≡ laid 0 (λ i. wordsOf prime (valuesAt prime (keyArrays (now (key .entry))) (now (rows .entry)) (now (columns .entry)) i)) arrays (now (sheet .entry)) ⌝ }
 {
     let most = Shape {
         rows: rows.len() as u8,
@@ -102,9 +104,9 @@ pub fn over(
 )
     requires { ⌜ Indexed (now key) (now starts) ⌝ }
     requires { ⌜ arrays ≡ length (keyArrays (now key)) ⌝ }
-    requires { ⌜ Sides (now key) most (now rowwise) (now columnwise) ⌝ }
+    requires { ⌜ Sides singles (now key) most (now rowwise) (now columnwise) ⌝ }
     requires { ⌜ 3 * arrays ≤ length (now sheet) ⌝ }
-    ensures { λ _. ⌜ now (sheet .exit) ≡ laid 0 (λ i. wordsOf (passedValues (keyArrays (now (key .entry))) (prepared (now (rowwise .entry))) (prepared (now (columnwise .entry))) i)) arrays (now (sheet .entry)) ⌝ }
+    ensures { λ _. ⌜ now (sheet .exit) ≡ laid 0 (λ i. wordsOf prime (passedValues prime (keyArrays (now (key .entry))) (prepared singles (now (rowwise .entry))) (prepared singles (now (columnwise .entry))) i)) arrays (now (sheet .entry)) ⌝ }
 {
     for i in 0..arrays {
         let values = array::values(key, starts, arrays, i, most, rowwise, columnwise, sheet);
@@ -114,8 +116,8 @@ pub fn over(
 
 // The last array's values, where those of so many arrays stand on the sheet. Inner: there is a last array, and all are below p.
 pub fn last(sheet: &[u32], arrays: usize) -> Values
-    requires { ⌜ (0 < arrays) × Filled arrays (now sheet) ⌝ }
-    ensures { λ r. ⌜ valuesIn r ≡ sheetValues (now (sheet .entry)) (arrays - 1) ⌝ }
+    requires { ⌜ (0 < arrays) × Filled prime arrays (now sheet) ⌝ }
+    ensures { λ r. ⌜ valuesIn r ≡ sheetValues prime (now (sheet .entry)) (arrays - 1) ⌝ }
 {
     sheet::values(sheet, arrays - 1)
 }

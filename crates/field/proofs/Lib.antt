@@ -3,3 +3,5 @@ pub mod Divisors
 pub mod Inverses
 pub mod FpField
 pub mod Answers
+pub mod Scalars
+pub mod Elements

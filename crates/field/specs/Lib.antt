@@ -1,4 +1,5 @@
 pub mod Fp
+pub mod Scalars
 pub mod Prime
 pub mod Answer
 pub mod Inner

@@ -11,14 +11,18 @@ use Rattle.key.specs.declared.Checked.{Checked}
 use Rattle.evaluate.specs.Evaluate.{evaluatedOutcome}
 use Rattle.evaluate.specs.declared.Evaluated.{Evaluated}
 use Rattle.evaluate.proofs.Answers.{evaluated-injective}
+use Rattle.evaluate_quadratic.specs.Evaluate.{evaluatedOutcome as quadraticOutcome}
+use Rattle.evaluate_quadratic.specs.declared.Evaluated.{Evaluated as Quadratic}
+use Rattle.evaluate_quadratic.proofs.Answers.{evaluated-injective as quadratic-injective}
 use Rattle.compare.specs.AgreementBound.{isSame}
 use Rattle.compare.specs.Compare.{Answer, same, different, refusedFor, comparedAnswer}
 use Rattle.compare.specs.declared.Compared.{Compared}
 use Rattle.compare.specs.declared.Which.{Which}
-use Rattle.morgana.specs.Reply.{checkReply, evaluateReply, keyNumber, compareReply}
+use Rattle.morgana.specs.Reply.{checkReply, evaluateReply, quadraticReply, keyNumber, compareReply}
 use Rattle.morgana.specs.declared.CheckReply.{CheckReply}
 use Rattle.morgana.specs.declared.CompareReply.{CompareReply}
 use Rattle.morgana.specs.declared.EvaluateReply.{EvaluateReply}
+use Rattle.morgana.specs.declared.QuadraticReply.{QuadraticReply}
 
 -- a refusal is told by its number and its place
 refusal-told : (f g : Refusal) → numberOf (f .reason) ≡ numberOf (g .reason) → f .place ≡ g .place → f ≡ g
@@ -60,6 +64,23 @@ evaluate-told (Evaluated.Refused f) (Evaluated.Values w) e =
     absurd (number-some (f .reason) (ap (λ (x : EvaluateReply). x .number) e))
 evaluate-told (Evaluated.Refused f) (Evaluated.Refused g) e =
     ap Evaluated.Refused (refusal-told f g (ap (λ (x : EvaluateReply). x .number) e) (ap (λ (x : EvaluateReply). x .place) e))
+
+pub quadratic-told : (r s : Quadratic) → quadraticReply (quadraticOutcome r) ≡ quadraticReply (quadraticOutcome s) → r ≡ s
+quadratic-told (Quadratic.Values v) (Quadratic.Values w) e =
+    quadratic-injective (Quadratic.Values v) (Quadratic.Values w)
+    (λ i.
+    given
+    (record {
+      a = record { u = ap (λ (x : QuadraticReply). x .«a_u») e i; v = ap (λ (x : QuadraticReply). x .«a_v») e i };
+      b = record { u = ap (λ (x : QuadraticReply). x .«b_u») e i; v = ap (λ (x : QuadraticReply). x .«b_v») e i };
+      c = record { u = ap (λ (x : QuadraticReply). x .«c_u») e i; v = ap (λ (x : QuadraticReply). x .«c_v») e i };
+    }))
+quadratic-told (Quadratic.Values v) (Quadratic.Refused g) e =
+    absurd (number-some (g .reason) (sym (ap (λ (x : QuadraticReply). x .number) e)))
+quadratic-told (Quadratic.Refused f) (Quadratic.Values w) e =
+    absurd (number-some (f .reason) (ap (λ (x : QuadraticReply). x .number) e))
+quadratic-told (Quadratic.Refused f) (Quadratic.Refused g) e =
+    ap Quadratic.Refused (refusal-told f g (ap (λ (x : QuadraticReply). x .number) e) (ap (λ (x : QuadraticReply). x .place) e))
 
 which-told : (v w : Which) → keyNumber v ≡ keyNumber w → v ≡ w
 which-told Which.First Which.First e = refl

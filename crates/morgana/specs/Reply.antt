@@ -2,13 +2,16 @@
 -- other field is 0, but for the key that a refused comparison names.
 use Prim.Native.Nat.{ℕ}
 use Rattle.refusal.specs.Outcome.{Outcome, given, refused}
+use Rattle.quadratic.specs.Quadratic.{quadratic}
 use Rattle.arrays.specs.Arrays.{Values}
 use Rattle.key.specs.declared.Counts.{Counts}
+use Rattle.evaluate.specs.Evaluate.{ValuesOf}
 use Rattle.compare.specs.Compare.{Answer, same, different, refusedFor}
 use Rattle.compare.specs.declared.Which.{Which}
 use Rattle.morgana.specs.declared.CheckReply.{CheckReply}
 use Rattle.morgana.specs.declared.CompareReply.{CompareReply}
 use Rattle.morgana.specs.declared.EvaluateReply.{EvaluateReply}
+use Rattle.morgana.specs.declared.QuadraticReply.{QuadraticReply}
 
 -- check's reply: the counts of an accepted key, with n and n'
 abbrev pub checkReply : Outcome Counts → CheckReply
@@ -29,6 +32,22 @@ checkReply (refused number place) =
 abbrev pub evaluateReply : Outcome Values → EvaluateReply
 evaluateReply (given values) = record { number = 0; place = 0; a = values .a; b = values .b; c = values .c }
 evaluateReply (refused number place) = record { number = number; place = place; a = 0; b = 0; c = 0 }
+
+-- evaluate's reply over the field of p²: u and v of each
+abbrev pub quadraticReply : Outcome (ValuesOf quadratic) → QuadraticReply
+quadraticReply (given values) =
+    record {
+      number = 0;
+      place = 0;
+      «a_u» = values .a .u;
+      «a_v» = values .a .v;
+      «b_u» = values .b .u;
+      «b_v» = values .b .v;
+      «c_u» = values .c .u;
+      «c_v» = values .c .v;
+    }
+quadraticReply (refused number place) =
+    record { number = number; place = place; «a_u» = 0; «a_v» = 0; «b_u» = 0; «b_v» = 0; «c_u» = 0; «c_v» = 0 }
 
 -- the key that a refused comparison names
 abbrev pub keyNumber : Which → ℕ

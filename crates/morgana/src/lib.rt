@@ -1,16 +1,18 @@
-// The C interface (01, 'The keysheet program and the host'): check, evaluate, cell and compare over byte slices and slices of
-// 32-bit numbers. A reply is a struct of numbers: where nothing is refused its number and place are 0, and where something is,
-// every other field is 0, but for the key that a refused comparison names.
+// The C interface (01, 'The keysheet program and the host'; 02, E2): check, evaluate, cell and compare over byte slices and slices of
+// 32-bit numbers, evaluate and compare over either field. A reply is a struct of numbers: where nothing is refused its number and place
+// are 0, and where something is, every other field is 0, but for the key that a refused comparison names.
 mod reply;
 
 use key::Checked;
 ghost use mathlib.Core.Path.{_≡_};
+ghost use Rattle.field.specs.Scalars.{prime};
+ghost use Rattle.quadratic.specs.Quadratic.{quadratic};
 ghost use Rattle.key.specs.Check.{checkedKey};
 ghost use Rattle.evaluate.specs.Cell.{celled};
 ghost use Rattle.evaluate.specs.Evaluate.{evaluated};
 ghost use Rattle.compare.specs.AgreementBound.{Agreement};
 ghost use Rattle.compare.specs.Compare.{compared};
-ghost use Rattle.morgana.specs.Reply.{checkReply, evaluateReply, compareReply};
+ghost use Rattle.morgana.specs.Reply.{checkReply, evaluateReply, quadraticReply, compareReply};
 
 // The reply to check: an accepted key's counts of arrays, cells and calls, and its row bits and column bits.
 #[repr(C)]
@@ -34,7 +36,20 @@ pub struct EvaluateReply {
     pub c: u32,
 }
 
-// The reply to compare: the key that a refusal is about, 1 the first, 2 the second, 0 neither; and 1 for "same".
+// The reply to evaluate over the field of p² elements: the last array's values, u and v of each.
+#[repr(C)]
+pub struct QuadraticReply {
+    pub number: u32,
+    pub place: u64,
+    pub a_u: u32,
+    pub a_v: u32,
+    pub b_u: u32,
+    pub b_v: u32,
+    pub c_u: u32,
+    pub c_v: u32,
+}
+
+// The reply to compare, over either field: the key that a refusal is about, 1 the first, 2 the second, 0 neither; and 1 for "same".
 #[repr(C)]
 pub struct CompareReply {
     pub number: u32,
@@ -84,8 +99,8 @@ pub extern "C" fn morgana_evaluate(
     columns: &[u32],
     sheet: &mut [u32],
 ) -> EvaluateReply
-    ensures reply { λ r. ⌜ r ≡ evaluateReply (evaluated (now (key .entry)) (now (rows .entry)) (now (columns .entry)) (now (sheet .entry)) .answer) ⌝ }
-    ensures sheet { λ _. ⌜ now (sheet .exit) ≡ evaluated (now (key .entry)) (now (rows .entry)) (now (columns .entry)) (now (sheet .entry)) .sheet ⌝ }
+    ensures reply { λ r. ⌜ r ≡ evaluateReply (evaluated prime (now (key .entry)) (now (rows .entry)) (now (columns .entry)) (now (sheet .entry)) .answer) ⌝ }
+    ensures sheet { λ _. ⌜ now (sheet .exit) ≡ evaluated prime (now (key .entry)) (now (rows .entry)) (now (columns .entry)) (now (sheet .entry)) .sheet ⌝ }
 {
     reply::of_evaluated(evaluate::evaluate(key, rows, columns, sheet))
 }
@@ -115,9 +130,41 @@ pub extern "C" fn morgana_compare(
     columns: &[u32],
     sheet: &mut [u32],
 ) -> CompareReply
-    ensures reply { λ r. ⌜ r ≡ compareReply (compared (now (first .entry)) (now (second .entry)) (now (rows .entry)) (now (columns .entry)) (now (sheet .entry)) .answer) ⌝ }
-    ensures sheet { λ _. ⌜ now (sheet .exit) ≡ compared (now (first .entry)) (now (second .entry)) (now (rows .entry)) (now (columns .entry)) (now (sheet .entry)) .sheet ⌝ }
-    ensures agreement { λ _. ⌜ Agreement (now (first .entry)) (now (second .entry)) ⌝ }
+    ensures reply { λ r. ⌜ r ≡ compareReply (compared prime (now (first .entry)) (now (second .entry)) (now (rows .entry)) (now (columns .entry)) (now (sheet .entry)) .answer) ⌝ }
+    ensures sheet { λ _. ⌜ now (sheet .exit) ≡ compared prime (now (first .entry)) (now (second .entry)) (now (rows .entry)) (now (columns .entry)) (now (sheet .entry)) .sheet ⌝ }
+    ensures agreement { λ _. ⌜ Agreement prime (now (first .entry)) (now (second .entry)) ⌝ }
 {
     reply::of_compared(compare::compare(first, second, rows, columns, sheet))
+}
+
+// The last array's A, B and C at a point of the field of p² elements, two numbers a coordinate, u first, and every array's on the sheet,
+// those of array i from place 6i on, u before v; a refused call leaves the sheet.
+#[no_mangle]
+pub extern "C" fn morgana_evaluate_quadratic(
+    key: &[u8],
+    rows: &[u32],
+    columns: &[u32],
+    sheet: &mut [u32],
+) -> QuadraticReply
+    ensures reply { λ r. ⌜ r ≡ quadraticReply (evaluated quadratic (now (key .entry)) (now (rows .entry)) (now (columns .entry)) (now (sheet .entry)) .answer) ⌝ }
+    ensures sheet { λ _. ⌜ now (sheet .exit) ≡ evaluated quadratic (now (key .entry)) (now (rows .entry)) (now (columns .entry)) (now (sheet .entry)) .sheet ⌝ }
+{
+    reply::of_quadratic(evaluate_quadratic::evaluate(key, rows, columns, sheet))
+}
+
+// Whether two keys of one shape have the same A, B and C at a point of the field of p² elements. The sheet ends as if the first key and
+// then the second had been evaluated on it, and a refused call leaves it. The clause `agreement` is the agreement bound where q is p².
+#[no_mangle]
+pub extern "C" fn morgana_compare_quadratic(
+    first: &[u8],
+    second: &[u8],
+    rows: &[u32],
+    columns: &[u32],
+    sheet: &mut [u32],
+) -> CompareReply
+    ensures reply { λ r. ⌜ r ≡ compareReply (compared quadratic (now (first .entry)) (now (second .entry)) (now (rows .entry)) (now (columns .entry)) (now (sheet .entry)) .answer) ⌝ }
+    ensures sheet { λ _. ⌜ now (sheet .exit) ≡ compared quadratic (now (first .entry)) (now (second .entry)) (now (rows .entry)) (now (columns .entry)) (now (sheet .entry)) .sheet ⌝ }
+    ensures agreement { λ _. ⌜ Agreement quadratic (now (first .entry)) (now (second .entry)) ⌝ }
+{
+    reply::of_compared(compare_quadratic::compare(first, second, rows, columns, sheet))
 }

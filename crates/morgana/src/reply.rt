@@ -1,6 +1,7 @@
 // Replies to answers.
 use crate::CompareReply;
 use crate::EvaluateReply;
+use crate::QuadraticReply;
 use compare::Compared;
 use compare::Which;
 use evaluate::Evaluated;
@@ -8,8 +9,9 @@ use refusal::Refusal;
 ghost use mathlib.Core.Path.{_≡_};
 ghost use Rattle.refusal.specs.Number.{numberOf};
 ghost use Rattle.evaluate.specs.Evaluate.{evaluatedOutcome};
+ghost use Rattle.evaluate_quadratic.specs.Evaluate.{evaluatedOutcome as evaluatedQuadratic};
 ghost use Rattle.compare.specs.Compare.{comparedAnswer};
-ghost use Rattle.morgana.specs.Reply.{evaluateReply, compareReply, keyNumber};
+ghost use Rattle.morgana.specs.Reply.{evaluateReply, quadraticReply, compareReply, keyNumber};
 
 // The reply for an answer of evaluate or cell.
 pub(crate) fn of_evaluated(answer: Evaluated) -> EvaluateReply
@@ -33,7 +35,35 @@ pub(crate) fn of_evaluated(answer: Evaluated) -> EvaluateReply
     }
 }
 
-// The reply for an answer of compare.
+// The reply for an answer of evaluate over the field of p² elements.
+pub(crate) fn of_quadratic(answer: evaluate_quadratic::Evaluated) -> QuadraticReply
+    ensures { λ r. ⌜ r ≡ quadraticReply (evaluatedQuadratic answer) ⌝ }
+{
+    match answer {
+        evaluate_quadratic::Evaluated::Values(values) => QuadraticReply {
+            number: 0,
+            place: 0,
+            a_u: values.a.u.value(),
+            a_v: values.a.v.value(),
+            b_u: values.b.u.value(),
+            b_v: values.b.v.value(),
+            c_u: values.c.u.value(),
+            c_v: values.c.v.value(),
+        },
+        evaluate_quadratic::Evaluated::Refused(refusal) => QuadraticReply {
+            number: number(refusal),
+            place: refusal.place as u64,
+            a_u: 0,
+            a_v: 0,
+            b_u: 0,
+            b_v: 0,
+            c_u: 0,
+            c_v: 0,
+        },
+    }
+}
+
+// The reply for an answer of compare, over either field.
 pub(crate) fn of_compared(answer: Compared) -> CompareReply
     ensures { λ r. ⌜ r ≡ compareReply (comparedAnswer answer) ⌝ }
 {

@@ -1,4 +1,4 @@
-// eq, called on a case's two lists.
+// eq over either field, called on a case's two lists.
 use crate::input;
 use crate::print;
 ghost use mathlib.Core.Path.{_≡_};
@@ -21,4 +21,24 @@ fn of_lists(x: &mut [u32], y: &mut [u32])
     input::fill(x);
     input::fill(y);
     print::element(weights::eq(x, y));
+}
+
+// Prints eq over p² of the next two lists of so many elements, of two numbers each. Inner: they are at most 30.
+pub(crate) fn eq_quadratic(count: usize)
+    requires { ⌜ count ≤ 30 ⌝ }
+{
+    let mut x = [0u32; 60];
+    let mut y = [0u32; 60];
+    of_pairs(&mut x[0..2 * count], &mut y[0..2 * count]);
+}
+
+// Reads the lists and prints their eq. Inner: they have the same length.
+fn of_pairs(x: &mut [u32], y: &mut [u32])
+    requires { ⌜ length (now x) ≡ length (now y) ⌝ }
+{
+    input::fill(x);
+    input::fill(y);
+    let product = weights_quadratic::eq(x, y);
+    print::element(product.u);
+    print::element(product.v);
 }

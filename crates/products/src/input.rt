@@ -6,11 +6,11 @@ ghost use Rattle.field.specs.Fp.{p};
 
 // The numbers that a case begins with.
 pub(crate) struct Header {
-    // Which call: 1 for eq, 2 for factor, 3 for weigh.
+    // Which call: 1 for eq, 2 for factor, 3 for weigh, 4 for eq over p².
     pub call: u32,
     // The length of the text.
     pub text: usize,
-    // How many numbers a list has.
+    // How many numbers a list has, or how many elements of p².
     pub count: usize,
     // The number whose weights are taken.
     pub number: u32,

@@ -1,5 +1,5 @@
-// Runs the cases of standard input through the inner calls of weights and prints a line for each: the case, what is wanted and
-// what was got. tools/cases.py writes the cases and the wanted lines from 004.
+// Runs the cases of standard input through the inner calls of weights and weights_quadratic and prints a line for each: the case,
+// what is wanted and what was got. tools/cases.py writes the cases and the wanted lines from 004.
 //
 // Standard input is the number of cases and then each case: its header (input::Header), the text to print in front of what was
 // got, and the numbers of its lists. All numbers are of four bytes, little-endian.
@@ -23,6 +23,7 @@ fn run() {
     let call = header.call;
     match call {
         1 => eqs::eq(header.count),
+        4 => eqs::eq_quadratic(header.count),
         _ => sides::weights(header),
     }
     io::write_all(1, b"\n");

@@ -7,6 +7,7 @@ use weights::side;
 use weights::table;
 ghost use Prim.Native.Nat.{_≤_};
 ghost use lib.ListN.{length};
+ghost use Rattle.weights.specs.Words.{singles};
 ghost use Rattle.weights.specs.Side.{Ready, ForSide};
 
 // Prints the weights of a case by a table of single factors, or by one with the weights of limbs. Inner: there are at most 30
@@ -26,7 +27,7 @@ pub(crate) fn weights(header: Header)
 
 // Reads the coordinates, prepares the side and prints the weights. Inner: likewise, and the table has places for them.
 fn by_table(header: Header, coordinates: &mut [u32], table: &mut [u32])
-    requires { ⌜ (length (now coordinates) ≤ 30) × Ready (now table) ⌝ }
+    requires { ⌜ (length (now coordinates) ≤ 30) × Ready singles (now table) ⌝ }
 {
     input::fill(coordinates);
     table::prepare(coordinates, table);
@@ -41,7 +42,7 @@ fn by_table(header: Header, coordinates: &mut [u32], table: &mut [u32])
 // Prints the weights of a number over the bits from one up to each that is not before it. Inner: the table is one for so many
 // coordinates.
 fn windows(a: u32, table: &[u32], from: usize, count: usize)
-    requires { ⌜ ForSide count (now table) ⌝ }
+    requires { ⌜ ForSide singles count (now table) ⌝ }
 {
     for to in from..count + 1 {
         print::element(Fp::remainder(side::factor(a, table, from, to)));
@@ -50,7 +51,7 @@ fn windows(a: u32, table: &[u32], from: usize, count: usize)
 
 // Prints the weights of a number over the first bits, up to each, as far as they may be taken. Inner: likewise.
 fn from_first(a: u32, table: &[u32], count: u8)
-    requires { ⌜ ForSide count (now table) ⌝ }
+    requires { ⌜ ForSide singles count (now table) ⌝ }
 {
     for bits in 0..count + 1 {
         let to = side::reach(bits, count, table) as usize;

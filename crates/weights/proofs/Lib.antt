@@ -1,6 +1,7 @@
-pub mod Elements
+pub mod Singles
 pub mod Multiplying
 pub mod Weighing
+pub mod SmallWeights
 pub mod Factors
 pub mod Sizes
 pub mod LimbWeights

@@ -9,21 +9,23 @@ use crate::towers;
 /// The prime p.
 const P: u32 = morgana::P;
 
-/// A key to time, another that differs from it where it has a cell, and a point.
+/// A key to time, another that differs from it where it has a cell, and a point over p and one over p².
 pub struct Sample {
     pub name: &'static str,
     pub key: Vec<u8>,
     pub other: Vec<u8>,
     pub rows: Vec<u32>,
     pub columns: Vec<u32>,
+    pub quadratic_rows: Vec<u32>,
+    pub quadratic_columns: Vec<u32>,
     /// The number of factors of all weights of the key together.
     pub factors: usize,
 }
 
 impl Sample {
-    /// A sheet long enough for either key.
+    /// A sheet long enough for either key over either field.
     pub fn sheet(&self) -> Vec<u32> {
-        vec![7; 3 * 1_024]
+        vec![7; 6 * 1_024]
     }
 }
 
@@ -102,6 +104,8 @@ fn sample(random: &mut Random, name: &'static str, records: Vec<Record>) -> Samp
         name,
         rows: coordinates(read.rows),
         columns: coordinates(read.columns),
+        quadratic_rows: coordinates(2 * read.rows),
+        quadratic_columns: coordinates(2 * read.columns),
         factors: factors(&read),
         other: bytes(&others),
         key,

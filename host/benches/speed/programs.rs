@@ -5,6 +5,7 @@ use std::io::Write;
 use std::process::{Command, Stdio};
 use std::time::Instant;
 
+use crate::independent::field::Fp;
 use crate::independent::pass;
 use crate::independent::pass::factors::Factors;
 use crate::keys::Sample;
@@ -65,7 +66,8 @@ fn hold_answer(program: &str, sample: &Sample, input: &[u8]) {
     let first = format!("key {} bytes arrays ", sample.key.len());
     assert!(text.starts_with(&first), "keysheet printed {text}");
     let mut sheet = sample.sheet();
-    let answer = pass::evaluate::<Factors>(&sample.key, &sample.rows, &sample.columns, &mut sheet);
+    let answer =
+        pass::evaluate::<Factors<Fp>>(&sample.key, &sample.rows, &sample.columns, &mut sheet);
     let [a, b, c] = answer.expect("the point fits the key");
     let last = format!(" {a} {b} {c}\n");
     assert!(text.ends_with(&last), "keysheet printed {text}");

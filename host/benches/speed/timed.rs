@@ -2,6 +2,7 @@
 
 use std::hint::black_box;
 
+use crate::independent::field::{Fp, Quadratic};
 use crate::independent::pass;
 use crate::independent::pass::factors::Factors;
 use crate::independent::pass::tables::Tables;
@@ -21,11 +22,11 @@ pub fn evaluate(sample: &Sample) -> Row {
             black_box(answer).is_ok()
         },
         &mut || {
-            let answer = pass::evaluate::<Factors>(black_box(key), rows, columns, of_factors);
+            let answer = pass::evaluate::<Factors<Fp>>(black_box(key), rows, columns, of_factors);
             black_box(answer).is_ok()
         },
         &mut || {
-            let answer = pass::evaluate::<Tables>(black_box(key), rows, columns, of_tables);
+            let answer = pass::evaluate::<Tables<Fp>>(black_box(key), rows, columns, of_tables);
             black_box(answer).is_ok()
         },
         &mut || black_box(chain(sample.factors, black_box(rows[0]))) != 0,
@@ -98,12 +99,12 @@ pub fn compare(sample: &Sample) -> Row {
         },
         &mut || {
             let key = black_box(key);
-            let answer = pass::compare::<Factors>(key, other, rows, columns, of_factors);
+            let answer = pass::compare::<Factors<Fp>>(key, other, rows, columns, of_factors);
             black_box(answer).is_ok()
         },
         &mut || {
             let key = black_box(key);
-            let answer = pass::compare::<Tables>(key, other, rows, columns, of_tables);
+            let answer = pass::compare::<Tables<Fp>>(key, other, rows, columns, of_tables);
             black_box(answer).is_ok()
         },
     ]);
@@ -116,5 +117,97 @@ pub fn compare(sample: &Sample) -> Row {
         rust: times[1],
         tables: Some(times[2]),
         reference: None,
+    }
+}
+
+/// Times evaluate over p², and beside it the archive's over p.
+pub fn evaluate_quadratic(sample: &Sample) -> Row {
+    let Sample {
+        key,
+        rows,
+        columns,
+        quadratic_rows,
+        quadratic_columns,
+        ..
+    } = sample;
+    let mut sheets = [(); 4].map(|()| sample.sheet());
+    let [of_archive, of_factors, of_tables, over_p] = &mut sheets;
+    let times = alternate([
+        &mut || {
+            let (rows, columns) = (quadratic_rows, quadratic_columns);
+            let answer = morgana::evaluate_quadratic(black_box(key), rows, columns, of_archive);
+            black_box(answer).is_ok()
+        },
+        &mut || {
+            let (key, rows, columns) = (black_box(key), quadratic_rows, quadratic_columns);
+            let answer = pass::evaluate::<Factors<Quadratic>>(key, rows, columns, of_factors);
+            black_box(answer).is_ok()
+        },
+        &mut || {
+            let (key, rows, columns) = (black_box(key), quadratic_rows, quadratic_columns);
+            let answer = pass::evaluate::<Tables<Quadratic>>(key, rows, columns, of_tables);
+            black_box(answer).is_ok()
+        },
+        &mut || {
+            let answer = morgana::evaluate(black_box(key), rows, columns, over_p);
+            black_box(answer).is_ok()
+        },
+    ]);
+    Row {
+        call: "eval p²",
+        sample: sample.name,
+        bytes: key.len(),
+        factors: Some(sample.factors),
+        archive: times[0],
+        rust: times[1],
+        tables: Some(times[2]),
+        reference: Some(("over p", times[3])),
+    }
+}
+
+/// Times compare over p² of the key with one of which a cell has another C, and beside it the archive's
+/// over p.
+pub fn compare_quadratic(sample: &Sample) -> Row {
+    let Sample {
+        key,
+        other,
+        rows,
+        columns,
+        quadratic_rows,
+        quadratic_columns,
+        ..
+    } = sample;
+    let mut sheets = [(); 4].map(|()| sample.sheet());
+    let [of_archive, of_factors, of_tables, over_p] = &mut sheets;
+    let times = alternate([
+        &mut || {
+            let (key, rows, columns) = (black_box(key), quadratic_rows, quadratic_columns);
+            let answer = morgana::compare_quadratic(key, other, rows, columns, of_archive);
+            black_box(answer).is_ok()
+        },
+        &mut || {
+            let (key, rows, columns) = (black_box(key), quadratic_rows, quadratic_columns);
+            let answer = pass::compare::<Factors<Quadratic>>(key, other, rows, columns, of_factors);
+            black_box(answer).is_ok()
+        },
+        &mut || {
+            let (key, rows, columns) = (black_box(key), quadratic_rows, quadratic_columns);
+            let answer = pass::compare::<Tables<Quadratic>>(key, other, rows, columns, of_tables);
+            black_box(answer).is_ok()
+        },
+        &mut || {
+            let answer = morgana::compare(black_box(key), other, rows, columns, over_p);
+            black_box(answer).is_ok()
+        },
+    ]);
+    Row {
+        call: "comp p²",
+        sample: sample.name,
+        bytes: key.len() + other.len(),
+        factors: Some(2 * sample.factors),
+        archive: times[0],
+        rust: times[1],
+        tables: Some(times[2]),
+        reference: Some(("over p", times[3])),
     }
 }

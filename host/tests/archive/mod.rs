@@ -5,11 +5,14 @@
 #![allow(dead_code)]
 
 mod replies;
+mod served;
 
 use morgana::{Compared, Which};
 
+use crate::independent::field::Quadratic;
 use crate::independent::{CompareRefusal, Counts, Refusal};
 pub use replies::*;
+pub use served::Served;
 
 /// Check's answer through the safe call.
 pub fn check(key: &[u8]) -> Result<Counts, Refusal> {
@@ -48,7 +51,36 @@ pub fn compare(
     columns: &[u32],
     sheet: &mut [u32],
 ) -> Result<bool, CompareRefusal> {
-    match morgana::compare(first, second, rows, columns, sheet) {
+    compared(morgana::compare(first, second, rows, columns, sheet))
+}
+
+/// Evaluate's answer over p² through the safe call.
+pub fn evaluate_quadratic(
+    key: &[u8],
+    rows: &[u32],
+    columns: &[u32],
+    sheet: &mut [u32],
+) -> Result<[Quadratic; 3], Refusal> {
+    let answer = morgana::evaluate_quadratic(key, rows, columns, sheet).map_err(refusal)?;
+    Ok([answer.a, answer.b, answer.c].map(|element| [element.u, element.v]))
+}
+
+/// Compare's answer over p² through the safe call.
+pub fn compare_quadratic(
+    first: &[u8],
+    second: &[u8],
+    rows: &[u32],
+    columns: &[u32],
+    sheet: &mut [u32],
+) -> Result<bool, CompareRefusal> {
+    compared(morgana::compare_quadratic(
+        first, second, rows, columns, sheet,
+    ))
+}
+
+/// An answer of compare in the terms of the independent implementation.
+fn compared(answer: Result<Compared, morgana::CompareRefusal>) -> Result<bool, CompareRefusal> {
+    match answer {
         Ok(answer) => Ok(answer == Compared::Same),
         Err(refused) => Err(CompareRefusal {
             key: match refused.which {

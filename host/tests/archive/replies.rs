@@ -1,7 +1,8 @@
 //! The replies as C sees them: every field, all others 0 where the answer is a refusal.
 
-use morgana::raw::{self, CheckReply, CompareReply, EvaluateReply};
+use morgana::raw::{self, CheckReply, CompareReply, EvaluateReply, QuadraticReply};
 
+use crate::independent::field::Quadratic;
 use crate::independent::{CompareRefusal, Counts, Refusal};
 
 /// The reply that check gives for an answer: all other fields 0 where it is a refusal.
@@ -45,6 +46,25 @@ pub fn evaluate_reply(answer: Result<[u32; 3], Refusal>) -> EvaluateReply {
             b: 0,
             c: 0,
         },
+    }
+}
+
+/// The reply that evaluate over p² gives for an answer.
+pub fn quadratic_reply(answer: Result<[Quadratic; 3], Refusal>) -> QuadraticReply {
+    let (number, place) = match answer {
+        Ok(_) => (0, 0),
+        Err(Refusal { number, place }) => (number, place),
+    };
+    let [[a_u, a_v], [b_u, b_v], [c_u, c_v]] = answer.unwrap_or_default();
+    QuadraticReply {
+        number,
+        place,
+        a_u,
+        a_v,
+        b_u,
+        b_v,
+        c_u,
+        c_v,
     }
 }
 
@@ -115,6 +135,53 @@ pub fn raw_compare(
     // SAFETY: each pointer and length are those of a slice, and the sheet overlaps no other.
     unsafe {
         raw::morgana_compare(
+            first.as_ptr(),
+            first.len(),
+            second.as_ptr(),
+            second.len(),
+            rows.as_ptr(),
+            rows.len(),
+            columns.as_ptr(),
+            columns.len(),
+            sheet.as_mut_ptr(),
+            sheet.len(),
+        )
+    }
+}
+
+/// Evaluate's reply over p² as C sees it.
+pub fn raw_evaluate_quadratic(
+    key: &[u8],
+    rows: &[u32],
+    columns: &[u32],
+    sheet: &mut [u32],
+) -> QuadraticReply {
+    // SAFETY: each pointer and length are those of a slice, and the sheet overlaps no other.
+    unsafe {
+        raw::morgana_evaluate_quadratic(
+            key.as_ptr(),
+            key.len(),
+            rows.as_ptr(),
+            rows.len(),
+            columns.as_ptr(),
+            columns.len(),
+            sheet.as_mut_ptr(),
+            sheet.len(),
+        )
+    }
+}
+
+/// Compare's reply over p² as C sees it.
+pub fn raw_compare_quadratic(
+    first: &[u8],
+    second: &[u8],
+    rows: &[u32],
+    columns: &[u32],
+    sheet: &mut [u32],
+) -> CompareReply {
+    // SAFETY: each pointer and length are those of a slice, and the sheet overlaps no other.
+    unsafe {
+        raw::morgana_compare_quadratic(
             first.as_ptr(),
             first.len(),
             second.as_ptr(),

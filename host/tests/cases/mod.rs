@@ -9,6 +9,7 @@ use std::fmt::{Debug, Write};
 use std::ops::RangeInclusive;
 
 use crate::generator::random::Random;
+use crate::independent::field::Field;
 use crate::independent::{CompareRefusal, Refusal};
 use crate::lent::Lent;
 
@@ -134,9 +135,9 @@ pub fn outcomes(named: &[&str], ranges: &[(&str, RangeInclusive<u32>)]) -> Vec<S
 }
 
 /// The outcome of an answer of evaluate or cell.
-pub fn values_outcome(answer: &Result<[u32; 3], Refusal>) -> String {
+pub fn values_outcome<F: Field>(answer: &Result<[F; 3], Refusal>) -> String {
     match answer {
-        Ok([0, 0, 0]) => String::from("zero"),
+        Ok(values) if *values == [F::default(); 3] => String::from("zero"),
         _ => outcome(answer),
     }
 }

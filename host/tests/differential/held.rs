@@ -1,11 +1,12 @@
 //! One case of each call: the archive's answer, by the safe call and by the raw one, held to the
 //! independent implementation's.
 
-use crate::archive;
+use crate::archive::{self, Served};
 use crate::cases::{compare_outcome, outcome, values_outcome, Case};
 use crate::generator::inputs::Point;
 use crate::generator::random::Random;
-use crate::independent::calls;
+use crate::independent::calls::{self, places};
+use crate::independent::field::Field;
 use crate::lent::{lend_bytes, lend_numbers};
 
 /// One case of check, by the safe call and by the raw one.
@@ -21,11 +22,16 @@ pub fn check_case(random: &mut Random, key: &[u8]) -> Case {
     case
 }
 
-/// One case of evaluate, by the safe call and by the raw one.
-pub fn evaluate_case(random: &mut Random, key: &[u8], point: &Point, sheet: &[u32]) -> Case {
+/// One case of evaluate over a field, by the safe call and by the raw one.
+pub fn evaluate_case<F: Served>(
+    random: &mut Random,
+    key: &[u8],
+    point: &Point,
+    sheet: &[u32],
+) -> Case {
     let (rows, columns) = point;
     let mut wanted = sheet.to_vec();
-    let answer = calls::evaluate(key, rows, columns, &mut wanted);
+    let answer = calls::evaluate::<F>(key, rows, columns, &mut wanted);
     let input = format!("rows {rows:?} columns {columns:?} sheet {sheet:?}");
     let mut case = Case::new(&[key], input, values_outcome(&answer));
     let key = lend_bytes(random, key);
@@ -33,7 +39,7 @@ pub fn evaluate_case(random: &mut Random, key: &[u8], point: &Point, sheet: &[u3
     let columns = lend_numbers(random, columns);
     let mut sheet = lend_numbers(random, sheet);
 
-    let got = archive::evaluate(
+    let got = F::evaluate(
         key.slice(),
         rows.slice(),
         columns.slice(),
@@ -42,13 +48,13 @@ pub fn evaluate_case(random: &mut Random, key: &[u8], point: &Point, sheet: &[u3
     case.hold("evaluate", got, answer);
     case.hold_sheet("sheet", &mut sheet, &wanted);
     case.hold_unchanged(&[&key], &[&rows, &columns]);
-    let reply = archive::raw_evaluate(
+    let reply = F::raw_evaluate(
         key.slice(),
         rows.slice(),
         columns.slice(),
         sheet.slice_mut(),
     );
-    case.hold("evaluate's reply", reply, archive::evaluate_reply(answer));
+    case.hold("evaluate's reply", reply, F::reply(answer));
     case.hold_sheet("sheet of the reply", &mut sheet, &wanted);
     case.hold_unchanged(&[&key], &[&rows, &columns]);
     case
@@ -74,8 +80,8 @@ pub fn cell_case(random: &mut Random, key: &[u8], row: u32, column: u32, sheet: 
     case
 }
 
-/// One case of compare, by the safe call and by the raw one.
-pub fn compare_case(
+/// One case of compare over a field, by the safe call and by the raw one.
+pub fn compare_case<F: Served>(
     random: &mut Random,
     keys: &[Vec<u8>; 2],
     point: &Point,
@@ -84,9 +90,9 @@ pub fn compare_case(
     let [first, second] = keys;
     let (rows, columns) = point;
     let mut wanted = sheet.to_vec();
-    let answer = calls::compare(first, second, rows, columns, &mut wanted);
+    let answer = calls::compare::<F>(first, second, rows, columns, &mut wanted);
     let input = format!("rows {rows:?} columns {columns:?} sheet {sheet:?}");
-    let outcome = if answer == Ok(true) && last_triple(second, &wanted) == [0; 3] {
+    let outcome = if answer == Ok(true) && is_zero_at_last::<F>(second, &wanted) {
         String::from("same at zero")
     } else {
         compare_outcome(&answer)
@@ -98,7 +104,7 @@ pub fn compare_case(
     let columns = lend_numbers(random, columns);
     let mut sheet = lend_numbers(random, sheet);
 
-    let got = archive::compare(
+    let got = F::compare(
         first.slice(),
         second.slice(),
         rows.slice(),
@@ -108,7 +114,7 @@ pub fn compare_case(
     case.hold("compare", got, answer);
     case.hold_sheet("sheet", &mut sheet, &wanted);
     case.hold_unchanged(&[&first, &second], &[&rows, &columns]);
-    let reply = archive::raw_compare(
+    let reply = F::raw_compare(
         first.slice(),
         second.slice(),
         rows.slice(),
@@ -121,8 +127,9 @@ pub fn compare_case(
     case
 }
 
-/// The last array's values of an accepted key on a sheet on which it was evaluated last.
-fn last_triple<'a>(key: &[u8], sheet: &'a [u32]) -> &'a [u32] {
+/// Whether the last array's values of an accepted key are zero on a sheet on which it was evaluated last.
+fn is_zero_at_last<F: Field>(key: &[u8], sheet: &[u32]) -> bool {
     let arrays = calls::check(key).expect("the key is accepted").arrays as usize;
-    &sheet[3 * arrays - 3..3 * arrays]
+    let last = &sheet[places::<F>(arrays - 1)..places::<F>(arrays)];
+    last.iter().all(|&number| number == 0)
 }

@@ -1,7 +1,7 @@
 //! Keys of 65,536 bytes, held to closed forms.
 
 use crate::generator::random::Random;
-use crate::independent::field::sum;
+use crate::independent::field::{sum, Fp};
 use crate::independent::pass;
 use crate::independent::pass::factors::Factors;
 use crate::independent::record::Record::{Recursive, Sparse};
@@ -72,7 +72,7 @@ fn full_of_both() {
     accepts(&full, 12, 1_560, 2_976);
     let (rows, columns) = (coordinates(7, 30), coordinates(8, 30));
     let mut wanted = vec![7; 3_072];
-    let answer = pass::evaluate::<Factors>(&full, &rows, &columns, &mut wanted);
+    let answer = pass::evaluate::<Factors<Fp>>(&full, &rows, &columns, &mut wanted);
     let mut sheet = vec![7; 3_072];
     assert_eq!(evaluate(&full, &rows, &columns, &mut sheet), answer);
     assert_eq!(sheet, wanted);

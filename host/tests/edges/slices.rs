@@ -7,6 +7,7 @@ use crate::independent::record::Record::Sparse;
 use crate::independent::{CompareRefusal, Refusal};
 use crate::written::{cell, key, sample};
 use morgana::raw::{morgana_cell, morgana_check, morgana_compare, morgana_evaluate};
+use morgana::raw::{morgana_compare_quadratic, morgana_evaluate_quadratic};
 
 /// The key with one array of one place.
 fn single() -> Vec<u8> {
@@ -131,4 +132,44 @@ fn nulls_of_compare() {
         assert_eq!(reply, archive::compare_reply(Ok(true)));
     }
     assert_eq!(sheet, [4, 5, 6, 7]);
+}
+
+/// Slices of the calls over p² as null.
+#[test]
+fn nulls_over_p_squared() {
+    let key = single();
+    let (bytes, length) = (key.as_ptr(), key.len());
+    let mut sheet = [7; 7];
+    let none: *const u32 = null();
+    let no_sheet = Refusal {
+        number: 31,
+        place: 6,
+    };
+    let refused = |key, refusal| archive::compare_reply(Err(CompareRefusal { key, refusal }));
+    // SAFETY: a null pointer goes with the length 0, all else is of slices.
+    unsafe {
+        let out = sheet.as_mut_ptr();
+        let reply = morgana_evaluate_quadratic(null(), 0, none, 0, none, 0, out, 7);
+        assert_eq!(reply, archive::quadratic_reply(Err(MISSING)));
+        let reply = morgana_evaluate_quadratic(bytes, length, none, 0, none, 0, null_mut(), 0);
+        assert_eq!(reply, archive::quadratic_reply(Err(no_sheet)));
+        let reply = morgana_compare_quadratic(null(), 0, bytes, length, none, 0, none, 0, out, 7);
+        assert_eq!(reply, refused(1, MISSING));
+        let reply = morgana_compare_quadratic(bytes, length, null(), 0, none, 0, none, 0, out, 7);
+        assert_eq!(reply, refused(2, MISSING));
+    }
+    assert_eq!(sheet, [7; 7]);
+    // SAFETY: as above.
+    unsafe {
+        let out = sheet.as_mut_ptr();
+        let reply = morgana_evaluate_quadratic(bytes, length, none, 0, none, 0, out, 7);
+        assert_eq!(
+            reply,
+            archive::quadratic_reply(Ok([[4, 0], [5, 0], [6, 0]]))
+        );
+        let reply =
+            morgana_compare_quadratic(bytes, length, bytes, length, none, 0, none, 0, out, 7);
+        assert_eq!(reply, archive::compare_reply(Ok(true)));
+    }
+    assert_eq!(sheet, [4, 0, 5, 0, 6, 0, 7]);
 }

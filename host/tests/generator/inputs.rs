@@ -1,10 +1,40 @@
 //! Points, rows, columns and sheets, whole and faulty.
 
 use super::random::Random;
-use crate::independent::field::P;
+use crate::independent::calls::places;
+use crate::independent::field::{Field, Fp, Quadratic, P};
 
-/// Row coordinates and column coordinates.
+/// The numbers of row coordinates and of column coordinates.
 pub type Point = (Vec<u32>, Vec<u32>);
+
+/// A field that points are drawn from.
+pub trait Drawn: Field {
+    /// A point of so many row and column coordinates.
+    fn point(random: &mut Random, rows: usize, columns: usize) -> Point;
+
+    /// A point that does not fit them, in one or more ways.
+    fn faulty_point(random: &mut Random, rows: usize, columns: usize) -> Point;
+}
+
+impl Drawn for Fp {
+    fn point(random: &mut Random, rows: usize, columns: usize) -> Point {
+        point(random, rows, columns)
+    }
+
+    fn faulty_point(random: &mut Random, rows: usize, columns: usize) -> Point {
+        faulty_point(random, rows, columns)
+    }
+}
+
+impl Drawn for Quadratic {
+    fn point(random: &mut Random, rows: usize, columns: usize) -> Point {
+        quadratic_point(random, rows, columns)
+    }
+
+    fn faulty_point(random: &mut Random, rows: usize, columns: usize) -> Point {
+        faulty_quadratic_point(random, rows, columns)
+    }
+}
 
 /// A point of so many row and column coordinates, all below p. Most points have few coordinates
 /// near 0, 1 and p - 1 or none, as 0 and 1 make most weights zero.
@@ -34,7 +64,7 @@ fn coordinate(random: &mut Random, rarity: usize) -> u32 {
 }
 
 /// A point with one or more faults: a wrong count of rows or columns, coordinates p or more.
-pub fn faulty_point(random: &mut Random, rows: usize, columns: usize) -> Point {
+fn faulty_point(random: &mut Random, rows: usize, columns: usize) -> Point {
     let (mut row_count, mut column_count) = (rows, columns);
     let fault = random.below(8);
     if fault < 2 || fault == 7 {
@@ -58,6 +88,42 @@ pub fn faulty_point(random: &mut Random, rows: usize, columns: usize) -> Point {
         }
     }
     point
+}
+
+/// A point of so many row and column coordinates of two numbers each. In some points every v is 0, and in
+/// some every number is p - 1.
+fn quadratic_point(random: &mut Random, rows: usize, columns: usize) -> Point {
+    let (rows, columns) = (2 * rows, 2 * columns);
+    let mut point = match random.below(8) {
+        0 => return (vec![P - 1; rows], vec![P - 1; columns]),
+        1 => nonzero_point(random, rows, columns),
+        _ => point(random, rows, columns),
+    };
+    if random.chance(6) {
+        for side in [&mut point.0, &mut point.1] {
+            side.iter_mut().skip(1).step_by(2).for_each(|v| *v = 0);
+        }
+    }
+    point
+}
+
+/// A point of two numbers a coordinate with one or more faults: as `faulty_point` has them, which counts
+/// numbers, or a coordinate too many or too few.
+fn faulty_quadratic_point(random: &mut Random, rows: usize, columns: usize) -> Point {
+    if random.chance(2) {
+        return faulty_point(random, 2 * rows, 2 * columns);
+    }
+    let mut counts = [rows, columns];
+    let count = &mut counts[random.below(2)];
+    *count = match random.below(2) {
+        0 if *count > 0 => *count - 1,
+        _ => *count + 1,
+    };
+    let [rows, columns] = counts;
+    if random.chance(3) {
+        return faulty_point(random, 2 * rows, 2 * columns);
+    }
+    quadratic_point(random, rows, columns)
 }
 
 /// Another count than this one, often the next.
@@ -84,8 +150,8 @@ pub fn address(random: &mut Random, bits: usize, outside: bool) -> u32 {
 }
 
 /// A sheet of arbitrary numbers, mostly long enough for so many arrays, often exactly.
-pub fn sheet(random: &mut Random, arrays: usize) -> Vec<u32> {
-    let needed = 3 * arrays;
+pub fn sheet<F: Field>(random: &mut Random, arrays: usize) -> Vec<u32> {
+    let needed = places::<F>(arrays);
     let length = match random.below(8) {
         0..=2 => needed,
         3..=4 => needed + random.between(1, 4),
@@ -95,8 +161,8 @@ pub fn sheet(random: &mut Random, arrays: usize) -> Vec<u32> {
 }
 
 /// A sheet too short for so many arrays, often by one.
-pub fn short_sheet(random: &mut Random, arrays: usize) -> Vec<u32> {
-    let needed = 3 * arrays;
+pub fn short_sheet<F: Field>(random: &mut Random, arrays: usize) -> Vec<u32> {
+    let needed = places::<F>(arrays);
     let length = match random.below(4) {
         0..=1 => needed - 1,
         2 => 0,

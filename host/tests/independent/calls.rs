@@ -1,10 +1,10 @@
 //! Check, evaluate, cell and compare, with the sheet, on top of the unrolled matrices.
 
-use super::dense::{extension, extension_of_places, unroll, unroll_places};
-use super::field::{bits, P};
+use super::dense::{extension, extension_of_places, unroll, unroll_places, Places};
+use super::field::{bits, elements, Field, Fp, P};
 use super::key::{counts, read, Body, Key};
 use super::pass::factors::Factors;
-use super::pass::{self, Weights};
+use super::pass::{self, Lazy, Weights};
 use super::{refuse, CompareRefusal, Counts, Refusal};
 
 /// The greatest number of additions for which a key is unrolled into whole matrices.
@@ -19,21 +19,39 @@ pub fn check(bytes: &[u8]) -> Result<Counts, Refusal> {
 
 /// Every array's values at a point that fits the key. They come from the whole matrices where
 /// those are small, else from the places that hold something, else from the pass.
-pub fn values(bytes: &[u8], key: &Key, rows: &[u32], columns: &[u32]) -> Vec<[u32; 3]> {
+pub fn values<F: Lazy>(bytes: &[u8], key: &Key, rows: &[u32], columns: &[u32]) -> Vec<[F; 3]> {
     if additions(key).is_some_and(|additions| additions <= MOST_ADDITIONS) {
-        let matrices = unroll(key);
-        let values = matrices.iter().map(|one| extension(one, rows, columns));
-        return values.collect();
+        return matrix_values(key, rows, columns);
     }
-    if let Some(unrolled) = unroll_places(key, MOST_PLACES) {
-        let values = unrolled.iter().zip(&key.arrays).map(|(places, array)| {
-            let rows = &rows[..array.row_bits as usize];
-            let columns = &columns[..array.column_bits as usize];
-            extension_of_places(places, rows, columns)
-        });
-        return values.collect();
+    match unroll_places(key, MOST_PLACES) {
+        Some(unrolled) => place_values(key, &unrolled, rows, columns),
+        None => pass_values::<Factors<F>>(bytes, key, rows, columns),
     }
-    pass_values::<Factors>(bytes, key, rows, columns)
+}
+
+/// Every array's values from the whole matrices.
+pub fn matrix_values<F: Field>(key: &Key, rows: &[u32], columns: &[u32]) -> Vec<[F; 3]> {
+    let (rows, columns) = (elements(rows), elements(columns));
+    let values = unroll(key)
+        .into_iter()
+        .map(|one| extension(&one, &rows, &columns));
+    values.collect()
+}
+
+/// Every array's values from the places that hold something.
+pub fn place_values<F: Field>(
+    key: &Key,
+    unrolled: &[Places],
+    rows: &[u32],
+    columns: &[u32],
+) -> Vec<[F; 3]> {
+    let (rows, columns) = (elements(rows), elements(columns));
+    let values = unrolled.iter().zip(&key.arrays).map(|(places, array)| {
+        let rows = &rows[..array.row_bits as usize];
+        let columns = &columns[..array.column_bits as usize];
+        extension_of_places(places, rows, columns)
+    });
+    values.collect()
 }
 
 /// Every array's values by the pass.
@@ -42,12 +60,18 @@ pub fn pass_values<W: Weights>(
     key: &Key,
     rows: &[u32],
     columns: &[u32],
-) -> Vec<[u32; 3]> {
-    let mut sheet = vec![0; 3 * key.arrays.len()];
+) -> Vec<[W::Field; 3]> {
+    let mut sheet = vec![0; places::<W::Field>(key.arrays.len())];
     let answer = pass::evaluate::<W>(bytes, rows, columns, &mut sheet);
     answer.expect("the point fits the key");
-    let triples = sheet.chunks_exact(3).map(|one| [one[0], one[1], one[2]]);
+    let elements: Vec<W::Field> = elements(&sheet);
+    let triples = elements.chunks_exact(3).map(|one| [one[0], one[1], one[2]]);
     triples.collect()
+}
+
+/// How many places the values of so many arrays take on a sheet.
+pub fn places<F: Field>(arrays: usize) -> usize {
+    3 * F::NUMBERS * arrays
 }
 
 /// How many places and additions the whole matrices take; none where one has over 2^12 places.
@@ -68,16 +92,17 @@ fn additions(key: &Key) -> Option<usize> {
     Some(total)
 }
 
-/// Evaluate: check, 21, 22, 23, 31; every array's values on the sheet, array i's at 3i.
-pub fn evaluate(
+/// Evaluate: check, 21, 22, 23, 31; every array's values on the sheet, array i's at 3i over p and at 6i
+/// over p².
+pub fn evaluate<F: Lazy>(
     bytes: &[u8],
     rows: &[u32],
     columns: &[u32],
     sheet: &mut [u32],
-) -> Result<[u32; 3], Refusal> {
+) -> Result<[F; 3], Refusal> {
     let key = read(bytes)?;
-    judge_point(&key, rows, columns)?;
-    judge_sheet(key.arrays.len(), sheet)?;
+    judge_point::<F>(&key, rows, columns)?;
+    judge_sheet::<F>(key.arrays.len(), sheet)?;
     Ok(write(&values(bytes, &key, rows, columns), sheet))
 }
 
@@ -91,7 +116,7 @@ pub fn cell(bytes: &[u8], row: u32, column: u32, sheet: &mut [u32]) -> Result<[u
     if u64::from(column) >= 1 << key.columns {
         return refuse(24, 1);
     }
-    judge_sheet(key.arrays.len(), sheet)?;
+    judge_sheet::<Fp>(key.arrays.len(), sheet)?;
     let rows = bits(row, key.rows);
     let columns = bits(column, key.columns);
     let answer = write(&values(bytes, &key, &rows, &columns), sheet);
@@ -110,7 +135,7 @@ fn dense_values(key: &Key, row: u32, column: u32) -> Option<[u32; 3]> {
 
 /// Compare: the first key, the second key, 35, 21, 22, 23, 31 for the key with more arrays;
 /// whether all three values agree, and the sheet as after evaluating the first and the second.
-pub fn compare(
+pub fn compare<F: Lazy>(
     first: &[u8],
     second: &[u8],
     rows: &[u32],
@@ -123,41 +148,42 @@ pub fn compare(
     if (one.rows, one.columns) != (other.rows, other.columns) {
         return refuse(35, 0).map_err(of(0));
     }
-    judge_point(&one, rows, columns).map_err(of(0))?;
+    judge_point::<F>(&one, rows, columns).map_err(of(0))?;
     let arrays = one.arrays.len().max(other.arrays.len());
-    judge_sheet(arrays, sheet).map_err(of(0))?;
-    let of_first = write(&values(first, &one, rows, columns), sheet);
+    judge_sheet::<F>(arrays, sheet).map_err(of(0))?;
+    let of_first: [F; 3] = write(&values(first, &one, rows, columns), sheet);
     let of_second = write(&values(second, &other, rows, columns), sheet);
     Ok(of_first == of_second)
 }
 
-/// Refusals 21, 22 and 23.
-fn judge_point(key: &Key, rows: &[u32], columns: &[u32]) -> Result<(), Refusal> {
-    if rows.len() != key.rows as usize {
+/// Refusals 21, 22 and 23, which count numbers.
+fn judge_point<F: Field>(key: &Key, rows: &[u32], columns: &[u32]) -> Result<(), Refusal> {
+    if rows.len() != F::NUMBERS * key.rows as usize {
         return refuse(21, rows.len());
     }
-    if columns.len() != key.columns as usize {
+    if columns.len() != F::NUMBERS * key.columns as usize {
         return refuse(22, columns.len());
     }
-    let mut coordinates = rows.iter().chain(columns);
-    match coordinates.position(|&coordinate| coordinate >= P) {
+    let mut numbers = rows.iter().chain(columns);
+    match numbers.position(|&number| number >= P) {
         Some(index) => refuse(23, index),
         None => Ok(()),
     }
 }
 
 /// Refusal 31.
-fn judge_sheet(arrays: usize, sheet: &[u32]) -> Result<(), Refusal> {
-    if sheet.len() < 3 * arrays {
-        return refuse(31, 3 * arrays);
+fn judge_sheet<F: Field>(arrays: usize, sheet: &[u32]) -> Result<(), Refusal> {
+    if sheet.len() < places::<F>(arrays) {
+        return refuse(31, places::<F>(arrays));
     }
     Ok(())
 }
 
 /// Writes every array's values on the sheet and answers the last array's.
-fn write(values: &[[u32; 3]], sheet: &mut [u32]) -> [u32; 3] {
-    for (i, triple) in values.iter().enumerate() {
-        sheet[3 * i..3 * i + 3].copy_from_slice(triple);
+fn write<F: Field>(values: &[[F; 3]], sheet: &mut [u32]) -> [F; 3] {
+    let elements = values.iter().flatten();
+    for (element, places) in elements.zip(sheet.chunks_exact_mut(F::NUMBERS)) {
+        element.put(places);
     }
     *values.last().expect("an accepted key has an array")
 }

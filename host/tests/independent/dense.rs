@@ -2,7 +2,7 @@
 
 use std::collections::HashMap;
 
-use super::field::{eq, product, sum};
+use super::field::{eq, sum, Field};
 use super::key::{Array, Body, Key};
 
 /// An array's A, B and C at every place that holds something; they are zero elsewhere.
@@ -79,22 +79,28 @@ fn unroll_array(array: &Array, earlier: &[Matrix]) -> Matrix {
 
 /// The multilinear extension of a matrix at the first k and the first k' coordinates of a point:
 /// the sum over all rows and columns.
-pub fn extension(matrix: &Matrix, rows: &[u32], columns: &[u32]) -> [u32; 3] {
+pub fn extension<F: Field>(matrix: &Matrix, rows: &[F], columns: &[F]) -> [F; 3] {
     let rows = &rows[..matrix.row_bits as usize];
     let columns = &columns[..matrix.column_bits as usize];
-    let column_weights: Vec<u32> = (0..1 << matrix.column_bits)
+    let column_weights: Vec<F> = (0..1 << matrix.column_bits)
         .map(|column| eq(column, columns))
         .collect();
-    let mut total = [0; 3];
+    let mut total = [F::default(); 3];
     for row in 0..1 << matrix.row_bits {
         let row_weight = eq(row, rows);
         for column in 0..1 << matrix.column_bits {
-            let weight = product(row_weight, column_weights[column as usize]);
-            let values = matrix.at(row, column);
-            add(&mut total, values.map(|value| product(value, weight)));
+            let weight = row_weight.times(column_weights[column as usize]);
+            add_weighed(&mut total, matrix.at(row, column), weight);
         }
     }
     total
+}
+
+/// Adds three values times a weight to three sums.
+fn add_weighed<F: Field>(to: &mut [F; 3], values: [u32; 3], weight: F) {
+    for (to, value) in to.iter_mut().zip(values) {
+        *to = to.plus(F::of_value(value).times(weight));
+    }
 }
 
 /// The dense form of every array at the places that hold something, for keys with too many rows
@@ -136,11 +142,11 @@ pub fn unroll_places(key: &Key, most: usize) -> Option<Vec<Places>> {
 }
 
 /// The multilinear extension from the places that hold something.
-pub fn extension_of_places(places: &Places, rows: &[u32], columns: &[u32]) -> [u32; 3] {
-    let mut total = [0; 3];
+pub fn extension_of_places<F: Field>(places: &Places, rows: &[F], columns: &[F]) -> [F; 3] {
+    let mut total = [F::default(); 3];
     for (&(row, column), &values) in places {
-        let weight = product(eq(row, rows), eq(column, columns));
-        add(&mut total, values.map(|value| product(value, weight)));
+        let weight = eq(row, rows).times(eq(column, columns));
+        add_weighed(&mut total, values, weight);
     }
     total
 }

@@ -1,10 +1,10 @@
 //! An implementation written from the request alone, to which the tests hold the archive.
 //!
-//! - `field`: the field by `%`, and eq.
+//! - `field`: the fields of p and of p² elements by `%`, and eq.
 //! - `record`: the six records, taken from bytes and put into bytes.
 //! - `key`: a key read and judged.
 //! - `dense`: the matrices of every array unrolled, and their multilinear extensions.
-//! - `calls`: check, evaluate, cell and compare on top of these.
+//! - `calls`: check, evaluate, cell and compare on top of these, evaluate and compare over either field.
 //! - `pass`: the same calls without unrolling, written for speed.
 
 // Each test program uses a part of these modules.

@@ -26,6 +26,40 @@ fn keys_of_the_same_matrices_are_the_same_at_every_point() {
 }
 
 #[test]
+fn points_of_two_numbers_a_coordinate_have_their_own_bound() {
+    let folder = Folder::new(
+        "same-quadratic",
+        &[("sample", &sample()), ("flat", &flat())],
+    );
+    for (points, bound) in [(1, "4.4e-19"), (2, "1.9e-37")] {
+        let points_given = points.to_string();
+        let ran = folder.run(&[
+            "compare",
+            "sample",
+            "flat",
+            "--quadratic",
+            "--points",
+            &points_given,
+        ]);
+        assert_eq!((ran.status, ran.errors.as_str()), (Some(0), ""));
+        let lines: Vec<_> = ran.out.lines().collect();
+        let (used, verdict) = lines.split_at(2 * points);
+        for line in used {
+            let numbers = line.split(' ').skip(1);
+            assert_eq!(numbers.clone().count(), 2, "{line}");
+            for number in numbers {
+                let number = number.parse::<u32>();
+                assert!(number.is_ok_and(|number| number < morgana::P));
+            }
+        }
+        let bound = format!(
+            "keys that differ would pass with probability at most {bound} (q = p², m = 2, N = {points})"
+        );
+        assert_eq!(verdict, ["same", &bound]);
+    }
+}
+
+#[test]
 fn one_point_is_used_where_no_number_is_given() {
     let folder = Folder::new("one", &[("key", &single(1))]);
     folder.run(&["compare", "key", "key"]).answers(
@@ -37,9 +71,11 @@ fn one_point_is_used_where_no_number_is_given() {
 #[test]
 fn the_first_point_that_differs_is_the_last() {
     let folder = Folder::new("different", &[("one", &single(1)), ("two", &single(2))]);
-    folder
-        .run(&["compare", "one", "two", "--points", "5"])
-        .answers(1, "rows\ncolumns\ndifferent\nat point 1 of 5\n");
+    let wanted = "rows\ncolumns\ndifferent\nat point 1 of 5\n";
+    for option in [&[][..], &["--quadratic"]] {
+        let arguments = [&["compare", "one", "two", "--points", "5"], option].concat();
+        folder.run(&arguments).answers(1, wanted);
+    }
 }
 
 #[test]
@@ -72,8 +108,9 @@ fn a_refusal_names_the_key_at_fault() {
         ("sample", "single", "refused 35 at 0: shapes differ\n"),
         ("single", "sample", "refused 35 at 0: shapes differ\n"),
     ] {
-        folder
-            .run(&["compare", old, new, "--points", "4"])
-            .answers(2, wanted);
+        for option in [&[][..], &["--quadratic"]] {
+            let arguments = [&["compare", old, new, "--points", "4"], option].concat();
+            folder.run(&arguments).answers(2, wanted);
+        }
     }
 }

@@ -18,6 +18,7 @@ fn help_says_how_the_program_is_used() {
         "cell",
         "compare",
         "--points",
+        "--quadratic",
         "Exit status",
     ] {
         assert!(help.out.contains(word), "{word}");

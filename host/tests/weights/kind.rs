@@ -1,11 +1,13 @@
 //! Check, evaluate, cell and compare on keys of one kind.
 
+use crate::archive::Served;
 use crate::cases::{outcomes, run_each, Case};
 use crate::generator::inputs::{nonzero_point, sheet, Point};
 use crate::generator::path::{end_of, path};
 use crate::generator::random::Random;
 use crate::generator::variants::{altered, arrays, other, reworded, shape};
 use crate::held::{cell_case, check_case, compare_case, evaluate_case};
+use crate::independent::field::{Fp, Quadratic};
 use crate::independent::record::{bytes, Record};
 
 /// A kind of keys and points to hold the archive on.
@@ -14,7 +16,7 @@ pub struct Kind {
     pub values: &'static [&'static str],
     /// What compare comes to.
     pub comparisons: &'static [&'static str],
-    /// A point of so many row and column coordinates.
+    /// A point of so many numbers for the rows and for the columns.
     pub point: fn(&mut Random, usize, usize) -> Point,
 }
 
@@ -43,9 +45,15 @@ impl Kind {
             });
         };
         each("check", &["accepted"], Kind::check);
-        each("evaluate", self.values, Kind::evaluate);
+        each("evaluate", self.values, Kind::evaluate::<Fp>);
         each("cell", self.values, Kind::cell);
-        each("compare", self.comparisons, Kind::compare);
+        each("compare", self.comparisons, Kind::compare::<Fp>);
+        each("evaluate over p²", self.values, Kind::evaluate::<Quadratic>);
+        each(
+            "compare over p²",
+            self.comparisons,
+            Kind::compare::<Quadratic>,
+        );
     }
 
     /// Check of a key.
@@ -54,34 +62,38 @@ impl Kind {
     }
 
     /// Evaluate of a key at a point.
-    fn evaluate(&self, random: &mut Random, records: &[Record]) -> Case {
+    fn evaluate<F: Served>(&self, random: &mut Random, records: &[Record]) -> Case {
+        let point = self.point_of::<F>(random, records);
+        let sheet = sheet::<F>(random, arrays(records));
+        evaluate_case::<F>(random, &bytes(records), &point, &sheet)
+    }
+
+    /// A point for a key.
+    fn point_of<F: Served>(&self, random: &mut Random, records: &[Record]) -> Point {
         let (rows, columns) = shape(records);
-        let point = (self.point)(random, rows, columns);
-        let sheet = sheet(random, arrays(records));
-        evaluate_case(random, &bytes(records), &point, &sheet)
+        (self.point)(random, F::NUMBERS * rows, F::NUMBERS * columns)
     }
 
     /// Cell of a key at a place to which a path leads, where one is found.
     fn cell(&self, random: &mut Random, records: &[Record]) -> Case {
         let (row, column) = end_of(&path(random, records), records);
-        let sheet = sheet(random, arrays(records));
+        let sheet = sheet::<Fp>(random, arrays(records));
         cell_case(random, &bytes(records), row, column, &sheet)
     }
 
     /// Compare of a key with another of its shape, in either order.
-    fn compare(&self, random: &mut Random, records: &[Record]) -> Case {
+    fn compare<F: Served>(&self, random: &mut Random, records: &[Record]) -> Case {
         let second = match random.below(3) {
             0 => altered(random, records),
             1 => reworded(random, records),
             _ => other(random, shape(records)),
         };
-        let (rows, columns) = shape(records);
-        let point = (self.point)(random, rows, columns);
-        let sheet = sheet(random, arrays(records).max(arrays(&second)));
+        let point = self.point_of::<F>(random, records);
+        let sheet = sheet::<F>(random, arrays(records).max(arrays(&second)));
         let mut keys = [bytes(records), bytes(&second)];
         if random.chance(2) {
             keys.reverse();
         }
-        compare_case(random, &keys, &point, &sheet)
+        compare_case::<F>(random, &keys, &point, &sheet)
     }
 }

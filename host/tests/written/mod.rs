@@ -69,7 +69,7 @@ pub fn accepts(key: &[u8], arrays: u32, cells: u32, calls: u32) {
     );
 }
 
-/// Asserts that check, evaluate, cell and compare refuse a key alike and leave the sheet as it was.
+/// Asserts that all calls refuse a key alike and leave the sheet as it was.
 pub fn refuses(key: &[u8], number: u32, place: u64) {
     let refusal = Refusal { number, place };
     assert_eq!(
@@ -87,6 +87,12 @@ pub fn refuses(key: &[u8], number: u32, place: u64) {
     let got = archive::compare(key, &sample, &[], &[P], &mut sheet);
     assert_eq!(got, of(1));
     let got = archive::compare(&sample, key, &[], &[P], &mut sheet);
+    assert_eq!(got, of(2));
+    let got = archive::evaluate_quadratic(key, &[P], &[], &mut sheet);
+    assert_eq!(got, Err(refusal));
+    let got = archive::compare_quadratic(key, &sample, &[], &[P], &mut sheet);
+    assert_eq!(got, of(1));
+    let got = archive::compare_quadratic(&sample, key, &[], &[P], &mut sheet);
     assert_eq!(got, of(2));
     assert_eq!(sheet, [7; 12]);
 }

@@ -1,26 +1,21 @@
 -- `compare::by_tables` meets its contract: the judgements in their order, then the two passes.
-use Prim.Native.Nat.{ℕ, _*_, _≤_}
-use mathlib.Core.List.{List}
+use Prim.Native.Nat.{_*_, _≤_}
 use mathlib.Core.Path.{_≡_, sym, ap, _∙_}
+use native.Mathlib.Omega.{arith}
 use denote.Ref.{now}
 use borrow.Author.Needs.{needs}
 use lib.ListN.{length}
 use Rattle.refusal.specs.Outcome.{given}
+use Rattle.field.specs.Scalars.{prime}
+use Rattle.field.proofs.Scalars.{prime-lawful}
 use Rattle.key.specs.Check.{checkedOutcome, checkedKey}
 use Rattle.evaluate.specs.Inner.{AtPoint}
 use Rattle.evaluate.proofs.Concluded.{arrays-counted, at-most-1024, table-indexed}
-use Rattle.compare.specs.Compare.{Answer, Comparison, pairJudged, compared}
-use Rattle.compare.proofs.Comparisons.{first-refused, second-refused, neither-refused}
+use Rattle.compare.specs.Compare.{pairJudged}
+use Rattle.compare.proofs.Comparisons.{promised, first-refused, second-refused, neither-refused}
 use Rattle.compare.proofs.Passes.{first-pass, second-pass, both-passed}
 use Rattle.compare.proofs.by_tables.Statement.{statement}
 use Rattle.compare.proofs.by_tables.Tie as tie
-
--- what is answered and left on the sheet
-promised : (first second rows columns sheet : List ℕ) (answer : Answer) (after : List ℕ) →
-    compared first second rows columns sheet ≡ record { answer = answer; sheet = after } →
-    (answer ≡ compared first second rows columns sheet .answer) × (after ≡ compared first second rows columns sheet .sheet)
-promised first second rows columns sheet answer after e =
-    (sym (ap (λ (x : Comparison). x .answer) e), sym (ap (λ (x : Comparison). x .sheet) e))
 
 -- the first key's counts, and the start, from behind the second key's
 abbrev firstly : tie.After-counts2 → tie.After-counts
@@ -42,7 +37,7 @@ counted c = c .before .before .before .before
 
 admitted-at : (c : tie.After-enum-told) →
     let args = start (firstly (counted c)) .args in
-    pairJudged (now (args .rows)) (now (args .columns)) (length (now (args .sheet))) (firstly (counted c) .counts .given .0 .0)
+    pairJudged 1 (now (args .rows)) (now (args .columns)) (length (now (args .sheet))) (firstly (counted c) .counts .given .0 .0)
     (counted c .counts2 .given .0 .0)
     ≡ given (c .enum-told .given .0 .0)
 admitted-at c = sym (c .before .before .pair .ensures) ∙ ap checkedOutcome (c .enum-told .given .1)
@@ -50,19 +45,19 @@ admitted-at c = sym (c .before .before .pair .ensures) ∙ ap checkedOutcome (c 
 -- what the passes ask of the point and of the sheet
 first-ready : (c : tie.After-enum-told) →
     let args = start (firstly (counted c)) .args in
-    AtPoint (now (args .first)) (now (args .rows)) (now (args .columns)) ×
+    AtPoint prime (now (args .first)) (now (args .rows)) (now (args .columns)) ×
     (3 * firstly (counted c) .counts .given .0 .0 .arrays ≤ length (now (args .sheet)))
 first-ready c =
-    first-pass _ _ _ _ (now (start (firstly (counted c)) .args .sheet)) _ _ _ (first-accepted (firstly (counted c)))
-    (second-accepted (counted c)) (admitted-at c)
+    first-pass prime _ _ _ _ (now (start (firstly (counted c)) .args .sheet)) _ _ _ (first-accepted (firstly (counted c)))
+    (second-accepted (counted c)) (admitted-at c) prime-lawful
 
 second-ready : (c : tie.After-enum-told) →
     let args = start (firstly (counted c)) .args in
-    AtPoint (now (args .second)) (now (args .rows)) (now (args .columns)) ×
+    AtPoint prime (now (args .second)) (now (args .rows)) (now (args .columns)) ×
     (3 * counted c .counts2 .given .0 .0 .arrays ≤ length (now (args .sheet)))
 second-ready c =
-    second-pass _ _ _ _ (now (start (firstly (counted c)) .args .sheet)) _ _ _ (first-accepted (firstly (counted c)))
-    (second-accepted (counted c)) (admitted-at c)
+    second-pass prime _ _ _ _ (now (start (firstly (counted c)) .args .sheet)) _ _ _ (first-accepted (firstly (counted c)))
+    (second-accepted (counted c)) (admitted-at c) prime-lawful
 
 index-requires : tie.Need-index-requires
 index-requires c κs = search needs
@@ -75,8 +70,8 @@ same-length c = search needs
 
 returns : tie.Need-returns
 returns c =
-    promised _ _ _ _ _ _ _
-    (first-refused _ _ _ _ _ _ _
+    promised prime _ _ _ _ _ _ _
+    (first-refused prime _ _ _ _ _ _ _
     (sym (c .before .before .before .before .before .index .ensures .0) ∙ ap checkedOutcome (c .before .refusal .given .1)))
 
 enum-known-counts : tie.Need-enum-known-counts
@@ -96,15 +91,15 @@ same-length-3 c = search needs
 
 returns-2 : tie.Need-returns-2
 returns-2 c =
-    promised _ _ _ _ _ _ _
-    (second-refused _ _ _ _ _ _ (first-accepted (c .before .before .before .before .before .before .before .before)) _ _
+    promised prime _ _ _ _ _ _ _
+    (second-refused prime _ _ _ _ _ _ (first-accepted (c .before .before .before .before .before .before .before .before)) _ _
     (sym (c .before .before .before .before .before .index2 .ensures .0) ∙ ap checkedOutcome (c .before .refusal2 .given .1)))
 
 enum-known-counts-2 : tie.Need-enum-known-counts-2
 enum-known-counts-2 c = search needs
 
 pair-requires : tie.Need-pair-requires
-pair-requires c κs = (at-most-1024 _ _ (first-accepted (firstly (c .before))), at-most-1024 _ _ (second-accepted (c .before)))
+pair-requires c κs = (omega arith, at-most-1024 _ _ (first-accepted (firstly (c .before))), at-most-1024 _ _ (second-accepted (c .before)))
 
 enum-known-refusal-3 : tie.Need-enum-known-refusal-3
 enum-known-refusal-3 c = search needs
@@ -118,8 +113,8 @@ same-length-5 c = search needs
 returns-3 : tie.Need-returns-3
 returns-3 c =
     let keys = c .before .before .before .before .before in
-    promised _ _ _ _ _ _ _
-    (neither-refused _ _ _ _ _ _ (first-accepted (firstly keys)) _ (second-accepted keys) _ _
+    promised prime _ _ _ _ _ _ _
+    (neither-refused prime _ _ _ _ _ _ (first-accepted (firstly keys)) _ (second-accepted keys) _ _
     (sym (c .before .before .before .pair .ensures) ∙ ap checkedOutcome (c .before .refusal3 .given .1)))
 
 enum-told : tie.Need-enum-told
@@ -158,8 +153,8 @@ same-length-8 c = counted (c .before .before .before .before .before .before) .b
 returns-4 : tie.Need-returns-4
 returns-4 c =
     let told = c .before .before .before .before .before .before in
-    promised _ _ _ _ _ _ _
-    (both-passed _ _ _ _ _ _ _ _ (first-accepted (firstly (counted told))) (second-accepted (counted told)) (admitted-at told) _ _
+    promised prime _ _ _ _ _ _ _
+    (both-passed prime _ _ _ _ _ _ _ _ (first-accepted (firstly (counted told))) (second-accepted (counted told)) (admitted-at told) _ _
     (c .before .before .run .ensures .0) (c .before .before .run .ensures .1))
 
 pub by-tables-spec : {M : Type 1} → statement M

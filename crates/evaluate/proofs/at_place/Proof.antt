@@ -1,10 +1,13 @@
 -- `evaluate::at_place` meets its contract: the judgements in their order, then the pass at the bits of the place.
 use Prim.Native.Nat.{_*_, _≤_, _^_, _<_}
 use mathlib.Core.Path.{_≡_}
+use native.Mathlib.Omega.{arith}
 use denote.Ref.{now}
 use borrow.Author.Needs.{needs}
 use lib.ListN.{length}
 use Rattle.refusal.specs.Outcome.{Outcome, given}
+use Rattle.field.specs.Scalars.{prime}
+use Rattle.field.proofs.Scalars.{prime-lawful}
 use Rattle.key.specs.Check.{checkedKey}
 use Rattle.key.specs.declared.Counts.{Counts}
 use Rattle.evaluate.specs.Judged.{placeJudged}
@@ -34,8 +37,8 @@ judged-at c =
 
 admitted-at : (c : tie.After-sheet) →
     Admitted (checkedKey (now (start (c .before) .args .key))) (judge (c .before)) (Holds (c .before))
-    (length (now (start (c .before) .args .sheet))) (c .sheet .result)
-admitted-at c = admitted-call _ _ _ (c .before .place .result) (c .sheet .result) _ (judged-at (c .before)) (c .sheet .ensures)
+    3 (length (now (start (c .before) .args .sheet))) (c .sheet .result)
+admitted-at c = admitted-call _ _ _ (c .before .place .result) (c .sheet .result) _ _ (judged-at (c .before)) (c .sheet .ensures)
 
 -- where the call is admitted
 known-at : (c : tie.After-judged2) →
@@ -43,7 +46,7 @@ known-at : (c : tie.After-judged2) →
     let p = c .before .before .before in
     (checkedKey (now (start p .args .key)) ≡ given counts) × Holds p counts ×
     (3 * counts .arrays ≤ length (now (start p .args .sheet)))
-known-at c = admitted-known _ _ _ _ _ (admitted-at (c .before .before)) _ (c .judged2 .given .1)
+known-at c = admitted-known _ _ _ _ _ _ (admitted-at (c .before .before)) _ (c .judged2 .given .1)
 
 index-requires : tie.Need-index-requires
 index-requires c κs = search needs
@@ -52,7 +55,7 @@ place-requires : tie.Need-place-requires
 place-requires c κs = search needs
 
 sheet-requires : tie.Need-sheet-requires
-sheet-requires c κs = few-arrays _ _ _ (at-most-1024 _) (c .place .result) (judged-at c)
+sheet-requires c κs = (omega arith, few-arrays _ _ _ (at-most-1024 _) (c .place .result) (judged-at c))
 
 enum-known-judged : tie.Need-enum-known-judged
 enum-known-judged c = search needs
@@ -95,7 +98,7 @@ last-requires c κs =
     let ran = c .before .before .before in
     let placed = ran .before .before .before .before .before .before in
     let known = known-at (placed .before .before .before .before .before .before) in
-    last-filled _ _ _
+    last-filled prime prime-lawful _ _ _
     (place-point _ _ (known .0) _ _ _ _ (placed .before .before .before .bits .ensures) (placed .bits2 .ensures)) _
     (arrays-counted _ _ (known .0)) _ _ (known .2) (ran .run .ensures)
 
@@ -103,7 +106,7 @@ same-length : tie.Need-same-length
 same-length c = search needs
 
 returns : tie.Need-returns
-returns c = refused-promise _ _ _ _ _ (admitted-at (c .before .before .before)) _ _ _ (c .before .judged .given .1)
+returns c = refused-promise prime _ _ _ _ _ (admitted-at (c .before .before .before)) _ _ _ (c .before .judged .given .1)
 
 same-length-2 : tie.Need-same-length-2
 same-length-2 c = search needs
@@ -120,9 +123,9 @@ returns-2 c =
     let rows = placed .before .before .before .bits .ensures in
     let columns = placed .bits2 .ensures in
     let call = judged .before .before in
-    given-promise _ _ _ (now (start (call .before) .args .sheet)) _ (admitted-at call) _ _ _ (judged .judged2 .given .1) _ _
+    given-promise prime _ _ _ (now (start (call .before) .args .sheet)) _ (admitted-at call) _ _ _ (judged .judged2 .given .1) _ _
     (place-values _ _ (known .0) _ _ _ _ rows columns (known .1) _
-    (last-extended _ _ _ (place-point _ _ (known .0) _ _ _ _ rows columns) _ (arrays-counted _ _ (known .0)) _ _ (known .2)
+    (last-extended prime prime-lawful _ _ _ (place-point _ _ (known .0) _ _ _ _ rows columns) _ (arrays-counted _ _ (known .0)) _ _ (known .2)
     (ran .run .ensures) _ (c .last .ensures)))
     (place-sheet _ _ (known .0) _ _ _ _ rows columns _ _ (ran .run .ensures))
 

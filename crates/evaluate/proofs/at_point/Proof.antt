@@ -1,10 +1,13 @@
 -- `evaluate::at_point` meets its contract: the judgements in their order, then the pass.
 use Prim.Native.Nat.{_*_, _≤_}
 use mathlib.Core.Path.{_≡_}
+use native.Mathlib.Omega.{arith}
 use denote.Ref.{now}
 use borrow.Author.Needs.{needs}
 use lib.ListN.{length}
 use Rattle.refusal.specs.Outcome.{Outcome, given}
+use Rattle.field.specs.Scalars.{prime}
+use Rattle.field.proofs.Scalars.{prime-lawful}
 use Rattle.key.specs.Check.{checkedKey}
 use Rattle.key.specs.declared.Counts.{Counts}
 use Rattle.evaluate.specs.Judged.{pointJudged}
@@ -20,22 +23,22 @@ abbrev start : tie.After-point → tie.Start
 start c = c .before .before .before .before .before .before .before .before .before .before
 
 abbrev judge : tie.After-point → Counts → Outcome Counts
-judge c = pointJudged (now (start c .args .rows)) (now (start c .args .columns))
+judge c = pointJudged 1 (now (start c .args .rows)) (now (start c .args .columns))
 
 abbrev Holds : tie.After-point → Counts → Type 0
-Holds c counts = PointOf (counts .rows) (counts .columns) (now (start c .args .rows)) (now (start c .args .columns))
+Holds c counts = PointOf 1 (counts .rows) (counts .columns) (now (start c .args .rows)) (now (start c .args .columns))
 
 -- behind that judgement, and behind that of the sheet
 judged-at : (c : tie.After-point) → Judged (checkedKey (now (start c .args .key))) (judge c) (Holds c) (c .point .result)
 judged-at c =
     judged-call _ _ _ (c .before .before .before .index .result) (c .point .result)
-    (point-gives (now (start c .args .rows)) (now (start c .args .columns)))
+    (point-gives 1 (now (start c .args .rows)) (now (start c .args .columns)))
     (c .before .before .before .index .ensures .0) (c .point .ensures)
 
 admitted-at : (c : tie.After-sheet) →
     Admitted (checkedKey (now (start (c .before) .args .key))) (judge (c .before)) (Holds (c .before))
-    (length (now (start (c .before) .args .sheet))) (c .sheet .result)
-admitted-at c = admitted-call _ _ _ (c .before .point .result) (c .sheet .result) _ (judged-at (c .before)) (c .sheet .ensures)
+    3 (length (now (start (c .before) .args .sheet))) (c .sheet .result)
+admitted-at c = admitted-call _ _ _ (c .before .point .result) (c .sheet .result) _ _ (judged-at (c .before)) (c .sheet .ensures)
 
 -- where the call is admitted
 known-at : (c : tie.After-judged2) →
@@ -43,7 +46,7 @@ known-at : (c : tie.After-judged2) →
     let p = c .before .before .before in
     (checkedKey (now (start p .args .key)) ≡ given counts) × Holds p counts ×
     (3 * counts .arrays ≤ length (now (start p .args .sheet)))
-known-at c = admitted-known _ _ _ _ _ (admitted-at (c .before .before)) _ (c .judged2 .given .1)
+known-at c = admitted-known _ _ _ _ _ _ (admitted-at (c .before .before)) _ (c .judged2 .given .1)
 
 index-requires : tie.Need-index-requires
 index-requires c κs = search needs
@@ -52,7 +55,7 @@ point-requires : tie.Need-point-requires
 point-requires c κs = search needs
 
 sheet-requires : tie.Need-sheet-requires
-sheet-requires c κs = few-arrays _ _ _ (at-most-1024 _) (c .point .result) (judged-at c)
+sheet-requires c κs = (omega arith, few-arrays _ _ _ (at-most-1024 _) (c .point .result) (judged-at c))
 
 enum-known-judged : tie.Need-enum-known-judged
 enum-known-judged c = search needs
@@ -68,7 +71,7 @@ run-requires c κs =
       (
         arrays-counted _ _ (known .0),
         (
-          at-point _ _ _ _ (known .0) (known .1),
+          at-point prime prime-lawful _ _ _ _ (known .0) (known .1),
           known .2,
         ),
       ),
@@ -78,14 +81,14 @@ last-requires : tie.Need-last-requires
 last-requires c κs =
     let ran = c .before .before .before in
     let known = known-at (ran .before .before .before .before) in
-    last-filled _ _ _ (at-point _ _ _ _ (known .0) (known .1)) _ (arrays-counted _ _ (known .0)) _ _ (known .2)
+    last-filled prime prime-lawful _ _ _ (at-point prime prime-lawful _ _ _ _ (known .0) (known .1)) _ (arrays-counted _ _ (known .0)) _ _ (known .2)
     (ran .run .ensures)
 
 same-length : tie.Need-same-length
 same-length c = search needs
 
 returns : tie.Need-returns
-returns c = refused-promise _ _ _ _ _ (admitted-at (c .before .before .before)) _ _ _ (c .before .judged .given .1)
+returns c = refused-promise prime _ _ _ _ _ (admitted-at (c .before .before .before)) _ _ _ (c .before .judged .given .1)
 
 same-length-2 : tie.Need-same-length-2
 same-length-2 c = search needs
@@ -99,8 +102,8 @@ returns-2 c =
     let judged = ran .before .before .before .before in
     let known = known-at judged in
     let call = judged .before .before in
-    given-promise _ _ _ (now (start (call .before) .args .sheet)) _ (admitted-at call) _ _ _ (judged .judged2 .given .1) _ _
-    (last-extended _ _ _ (at-point _ _ _ _ (known .0) (known .1)) _ (arrays-counted _ _ (known .0)) _ _ (known .2)
+    given-promise prime _ _ _ (now (start (call .before) .args .sheet)) _ (admitted-at call) _ _ _ (judged .judged2 .given .1) _ _
+    (last-extended prime prime-lawful _ _ _ (at-point prime prime-lawful _ _ _ _ (known .0) (known .1)) _ (arrays-counted _ _ (known .0)) _ _ (known .2)
     (ran .run .ensures) _ (c .last .ensures))
     (ran .run .ensures)
 

@@ -5,14 +5,15 @@ use native.Mathlib.Omega.{arith}
 use denote.Ref.{now}
 use lib.ListN.{length, getD}
 use Rattle.field.specs.Fp.{p, fp}
+use Rattle.field.proofs.FpField.{fp-ring}
 use Rattle.multilinear.specs.Eq.{eqFactor}
-use Rattle.weights.proofs.Elements.{below-at, eq-factor-below}
 use Rattle.weights.proofs.Multiplying.{Multiplying, multiplying-begun, multiplying-turn, multiplying-done}
+use Rattle.weights.proofs.Singles.{below-at, eq-factor-below}
 use Rattle.weights.proofs.eq.Statement.{statement}
 use Rattle.weights.proofs.eq.Tie as tie
 
 abbrev Inv-loop : tie.InvT-loop
-Inv-loop x y count product₀ i₀ product i = Multiplying x y (product .0) i
+Inv-loop x y count product₀ i₀ product i = Multiplying fp fp-ring x y (product .0) i
 
 abbrev μ-loop : tie.MeasureT-loop
 μ-loop x y count product₀ i₀ product i = count - i
@@ -33,7 +34,7 @@ one-requires : tie.Need-one-requires Inv-loop μ-loop
 one-requires c κs = tt
 
 loop-holds : tie.Need-loop-holds Inv-loop μ-loop
-loop-holds c = rw (c .one .ensures) (multiplying-begun _ _)
+loop-holds c = rw (c .one .ensures) (multiplying-begun fp fp-ring _ _)
 
 mul-new : tie.Need-mul-new Inv-loop μ-loop
 mul-new c = omega arith
@@ -60,8 +61,9 @@ eq-factor-requires c κs =
     (rw (c .before .before .new .ensures) (b .1), rw (c .new2 .ensures) (b .2))
 
 mul-requires : tie.Need-mul-requires Inv-loop μ-loop
+unfolding fp-ring
 mul-requires c κs =
-    (c .before .before .before .before .before .before .loop .inv .below, rw (c .eq-factor .ensures) (eq-factor-below _ _))
+    (c .before .before .before .before .before .before .loop .inv .valid, rw (c .eq-factor .ensures) (eq-factor-below _ _))
 
 add-i : tie.Need-add-i Inv-loop μ-loop
 add-i c = omega arith
@@ -74,12 +76,12 @@ loop-again c =
     let t = c .before .before .before .before .before .before .before in
     let l = c .before .before .before .before .before .before .loop-test .taken in
     rw (c .mul .ensures)
-    (multiplying-turn _ _ _ _ (t .loop .inv) _ l (both t l .0)
+    (multiplying-turn fp fp-ring _ _ _ _ (t .loop .inv) _ l (both t l .0)
     (c .before .eq-factor .ensures
     ∙ ap₂ (eqFactor fp) (c .before .before .before .before .new .ensures) (c .before .before .new2 .ensures)))
 
 returns : tie.Need-returns Inv-loop μ-loop
-returns c = multiplying-done _ _ _ _ (c .before .loop .inv) (omega arith)
+returns c = multiplying-done fp fp-ring _ _ _ _ (c .before .loop .inv) (omega arith)
 
 pub eq-spec : {M : Type 1} → statement M
 eq-spec =

@@ -1,6 +1,7 @@
 //! What the arguments ask for.
 
 use crate::decimal::decimal;
+use crate::field::Field;
 use std::ffi::{OsStr, OsString};
 use std::path::PathBuf;
 
@@ -22,6 +23,7 @@ pub enum Request {
     Evaluate {
         key: PathBuf,
         point: Option<PathBuf>,
+        field: Field,
     },
     /// The key's values in one cell.
     Cell { key: PathBuf, row: u32, column: u32 },
@@ -30,6 +32,7 @@ pub enum Request {
         old: PathBuf,
         new: PathBuf,
         points: u32,
+        field: Field,
     },
 }
 
@@ -41,9 +44,9 @@ pub fn parse(mut arguments: impl Iterator<Item = OsString>) -> Result<Request, S
         "--help" | "-h" | "help" => return Ok(Request::Help),
         "--version" => return Ok(Request::Version),
         "check" | "show" => ("KEY", &[]),
-        "evaluate" => ("KEY", &["--point", "--random"]),
+        "evaluate" => ("KEY", &["--point", "--random", "--quadratic"]),
         "cell" => ("KEY ROW COLUMN", &[]),
-        "compare" => ("OLD NEW", &["--points"]),
+        "compare" => ("OLD NEW", &["--points", "--quadratic"]),
         _ => return Err(format!("there is no command {command:?}")),
     };
     let Some(given) = Given::gather(arguments, options)? else {
@@ -54,6 +57,7 @@ pub fn parse(mut arguments: impl Iterator<Item = OsString>) -> Result<Request, S
         ("show", [key]) => Ok(Request::Show { key: key.into() }),
         ("evaluate", [key]) => Ok(Request::Evaluate {
             key: key.into(),
+            field: given.field(),
             point: given.point,
         }),
         ("cell", [key, row, column]) => Ok(Request::Cell {
@@ -65,6 +69,7 @@ pub fn parse(mut arguments: impl Iterator<Item = OsString>) -> Result<Request, S
             old: old.into(),
             new: new.into(),
             points: given.points.unwrap_or(1),
+            field: given.field(),
         }),
         (command, given) => Err(format!("{command} takes {names}: {} given", given.len())),
     }
@@ -77,6 +82,7 @@ struct Given {
     point: Option<PathBuf>,
     random: bool,
     points: Option<u32>,
+    quadratic: bool,
 }
 
 impl Given {
@@ -105,6 +111,14 @@ impl Given {
         Ok(Some(given))
     }
 
+    /// The field that coordinates are from.
+    fn field(&self) -> Field {
+        match self.quadratic {
+            true => Field::Quadratic,
+            false => Field::Prime,
+        }
+    }
+
     /// Takes in an option, which stands once, with its value from the arguments behind it.
     fn set(
         &mut self,
@@ -115,6 +129,7 @@ impl Given {
         let repeated = match option {
             "--point" => self.point.replace(value()?.into()).is_some(),
             "--points" => self.points.replace(points(&value()?)?).is_some(),
+            "--quadratic" => std::mem::replace(&mut self.quadratic, true),
             _ => std::mem::replace(&mut self.random, true),
         };
         if repeated {

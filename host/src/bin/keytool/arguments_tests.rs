@@ -31,6 +31,7 @@ fn evaluate_takes_a_point_or_none() {
         Ok(Request::Evaluate {
             key: "k".into(),
             point,
+            field: Field::Prime,
         })
     };
     assert_eq!(parsed(&["evaluate", "k"]), wanted(None));
@@ -49,13 +50,45 @@ fn evaluate_takes_a_point_or_none() {
 fn compare_takes_a_number_of_points() {
     let wanted = |points| {
         let (old, new) = ("a".into(), "b".into());
-        Ok(Request::Compare { old, new, points })
+        Ok(Request::Compare {
+            old,
+            new,
+            points,
+            field: Field::Prime,
+        })
     };
     assert_eq!(parsed(&["compare", "a", "b"]), wanted(1));
     assert_eq!(parsed(&["compare", "--points", "7", "a", "b"]), wanted(7));
     assert_eq!(
         parsed(&["compare", "a", "b", "--points", "1000000"]),
         wanted(1_000_000)
+    );
+}
+
+#[test]
+fn the_field_is_an_option() {
+    let field = Field::Quadratic;
+    for words in [
+        &["evaluate", "k", "--quadratic", "--point", "f"],
+        &["evaluate", "--point", "f", "--quadratic", "k"],
+    ] {
+        let (key, point) = ("k".into(), Some("f".into()));
+        let wanted = Request::Evaluate { key, point, field };
+        assert_eq!(parsed(words), Ok(wanted));
+    }
+    let (old, new, points) = ("a".into(), "b".into(), 3);
+    assert_eq!(
+        parsed(&["compare", "--quadratic", "a", "b", "--points", "3"]),
+        Ok(Request::Compare {
+            old,
+            new,
+            points,
+            field
+        })
+    );
+    assert_eq!(
+        fault(&["compare", "a", "b", "--quadratic", "--quadratic"]),
+        "--quadratic stands twice"
     );
 }
 
@@ -132,6 +165,8 @@ fn what_is_wrong_is_said() {
 fn an_option_belongs_to_its_command() {
     for words in [
         &["check", "k", "--points", "1"][..],
+        &["check", "k", "--quadratic"],
+        &["cell", "k", "0", "0", "--quadratic"],
         &["compare", "a", "b", "--random"],
         &["evaluate", "k", "--points", "1"],
         &["cell", "k", "-1", "0"],

@@ -1,6 +1,7 @@
 //! The command that compares two keys at random points.
 
 use crate::commands::SHEET;
+use crate::field::Field;
 use crate::files;
 use crate::likelihood::likelihood;
 use crate::outcome::{Answer, Failure, Status};
@@ -14,6 +15,7 @@ pub fn compare(
     old: &Path,
     new: &Path,
     points: u32,
+    field: Field,
     out: &mut impl Write,
 ) -> Result<Answer, Failure> {
     let (first, second) = (files::key(old)?, files::key(new)?);
@@ -21,11 +23,15 @@ pub fn compare(
         Ok(counts) => counts,
         Err(refusal) => return Ok(refused("old", old, refusal)),
     };
-    let mut source = Points::new(counts.rows, counts.columns)?;
+    let mut source = Points::new(counts.rows, counts.columns, field)?;
+    let compare_at = match field {
+        Field::Prime => morgana::compare,
+        Field::Quadratic => morgana::compare_quadratic,
+    };
     let mut sheet = [0; SHEET];
     for number in 1..=points {
         let point = source.draw()?;
-        let compared = morgana::compare(&first, &second, &point.rows, &point.columns, &mut sheet);
+        let compared = compare_at(&first, &second, &point.rows, &point.columns, &mut sheet);
         match compared {
             Err(CompareRefusal { which, refusal }) => {
                 return Ok(match which {
@@ -42,7 +48,7 @@ pub fn compare(
             }
         }
     }
-    Ok(same(counts.rows + counts.columns, points))
+    Ok(same(field, counts.rows + counts.columns, points))
 }
 
 /// The answer that gives the refusal of one of the keys.
@@ -54,10 +60,14 @@ fn refused(age: &str, path: &Path, refusal: Refusal) -> Answer {
 }
 
 /// The answer where the keys are the same at every point, with m coordinates for each.
-fn same(m: u32, points: u32) -> Answer {
-    let bound = likelihood(m, points);
+fn same(field: Field, m: u32, points: u32) -> Answer {
+    let bound = likelihood(field, m, points);
+    let size = match field {
+        Field::Prime => "",
+        Field::Quadratic => "q = p², ",
+    };
     Answer::accepted(format!(
-        "same\nkeys that differ would pass with probability at most {bound} (m = {m}, N = {points})\n"
+        "same\nkeys that differ would pass with probability at most {bound} ({size}m = {m}, N = {points})\n"
     ))
 }
 

@@ -18,8 +18,8 @@ A KEY is a file that holds one key. Values are modulo p = 2147483647.
       fields. Of a refused key it prints the records before the refusal's
       place, and then the refusal.
 
-  keytool evaluate KEY [--random]
-  keytool evaluate KEY --point FILE
+  keytool evaluate KEY [--random] [--quadratic]
+  keytool evaluate KEY --point FILE [--quadratic]
       Evaluates the key at a random point, or at the point in FILE. Prints the
       point, then for each array its number, A, B and C, and last the key's own
       A, B and C, which are those of the last array.
@@ -28,11 +28,15 @@ A KEY is a file that holds one key. Values are modulo p = 2147483647.
       Prints A, B and C at one row and column of the key's matrices, both
       counted from 0.
 
-  keytool compare OLD NEW [--points N]
+  keytool compare OLD NEW [--points N] [--quadratic]
       Compares two keys of one shape at N random points (1 to 1000000; 1 where
       the option is not given). Prints the points used, then `same` if the keys
       are the same at all of them and how likely keys that differ would pass,
       or `different` and the first point where they differ.
+
+  --quadratic
+      Takes coordinates from the field of the p² elements u + v·i, where i² is
+      -1. A coordinate is two numbers, u and then v, and so are A, B and C.
 
   keytool --help, keytool COMMAND --help
       Prints this page.
@@ -44,11 +48,12 @@ then the coordinates, decimal numbers between spaces; a line without
 coordinates is the word alone. Blank lines are skipped.
       rows 3 2147483646
       columns 4
+With --quadratic a coordinate is two numbers: `rows 3 2147483646` is one, 3 - i.
 
 Refusals: a key, point or cell that the library refuses is answered with
       refused N at P: SENTENCE
 where N is the number of the reason. P is an offset in the key where N is 1 to
-13, the count received for 21 and 22, a coordinate's index (rows first) for 23,
+13, the count received for 21 and 22, a number's index (rows first) for 23,
 0 for the row and 1 for the column for 24, and 0 for 35. Compare names the key
 at fault, old or new.
 

@@ -5,6 +5,7 @@ mod arguments;
 mod commands;
 mod compare;
 mod decimal;
+mod field;
 mod files;
 mod help;
 mod likelihood;
@@ -43,9 +44,16 @@ fn run(arguments: impl Iterator<Item = OsString>, out: &mut impl Write) -> Resul
         Request::Version => Ok(Answer::accepted(help::VERSION)),
         Request::Check { key } => commands::check(&key),
         Request::Show { key } => commands::show(&key),
-        Request::Evaluate { key, point } => commands::evaluate(&key, point.as_deref()),
+        Request::Evaluate { key, point, field } => {
+            commands::evaluate(&key, point.as_deref(), field)
+        }
         Request::Cell { key, row, column } => commands::cell(&key, row, column),
-        Request::Compare { old, new, points } => compare::compare(&old, &new, points, out),
+        Request::Compare {
+            old,
+            new,
+            points,
+            field,
+        } => compare::compare(&old, &new, points, field, out),
     }
 }
 

@@ -3,12 +3,12 @@
 use crate::decimal::decimal;
 use std::fmt::{Display, Formatter};
 
-/// A point: row coordinates and column coordinates, not judged.
+/// A point: the numbers of row coordinates and of column coordinates, not judged.
 #[derive(Debug, Clone, PartialEq, Eq)]
 pub struct Point {
-    /// The row coordinates.
+    /// The numbers of the row coordinates.
     pub rows: Vec<u32>,
-    /// The column coordinates.
+    /// The numbers of the column coordinates.
     pub columns: Vec<u32>,
 }
 

@@ -1,5 +1,6 @@
 //! Coordinates drawn from the operating system's randomness.
 
+use crate::field::Field;
 use crate::outcome::Failure;
 use crate::point::Point;
 use morgana::P;
@@ -10,7 +11,7 @@ use std::path::Path;
 /// The file that the operating system's randomness is read from.
 const SOURCE: &str = "/dev/urandom";
 
-/// A source of random points of one shape.
+/// A source of random points of so many numbers for the rows and for the columns.
 pub struct Points {
     bytes: BufReader<File>,
     rows: u32,
@@ -18,13 +19,13 @@ pub struct Points {
 }
 
 impl Points {
-    /// A source of points with so many row and column coordinates.
-    pub fn new(rows: u32, columns: u32) -> Result<Points, Failure> {
+    /// A source of points with so many row and column coordinates from a field.
+    pub fn new(rows: u32, columns: u32, field: Field) -> Result<Points, Failure> {
         let file = File::open(SOURCE).map_err(Failure::file(Path::new(SOURCE)))?;
         Ok(Points {
             bytes: BufReader::new(file),
-            rows,
-            columns,
+            rows: rows * field.numbers(),
+            columns: columns * field.numbers(),
         })
     }
 
@@ -34,7 +35,7 @@ impl Points {
     }
 }
 
-/// A point with so many row and column coordinates.
+/// A point with so many numbers for the rows and for the columns.
 fn point(bytes: &mut impl Read, rows: u32, columns: u32) -> io::Result<Point> {
     Ok(Point {
         rows: coordinates(bytes, rows)?,
@@ -42,7 +43,7 @@ fn point(bytes: &mut impl Read, rows: u32, columns: u32) -> io::Result<Point> {
     })
 }
 
-/// So many coordinates.
+/// The numbers of coordinates, so many.
 fn coordinates(bytes: &mut impl Read, count: u32) -> io::Result<Vec<u32>> {
     (0..count).map(|_| coordinate(bytes)).collect()
 }
@@ -80,9 +81,11 @@ mod tests {
 
     #[test]
     fn a_point_has_its_shape() {
-        let mut points = Points::new(2, 30).unwrap();
-        let (first, second) = (points.draw().unwrap(), points.draw().unwrap());
-        assert_eq!((first.rows.len(), first.columns.len()), (2, 30));
-        assert_ne!(first, second);
+        for (field, lengths) in [(Field::Prime, (2, 30)), (Field::Quadratic, (4, 60))] {
+            let mut points = Points::new(2, 30, field).unwrap();
+            let (first, second) = (points.draw().unwrap(), points.draw().unwrap());
+            assert_eq!((first.rows.len(), first.columns.len()), lengths);
+            assert_ne!(first, second);
+        }
     }
 }

@@ -6,12 +6,15 @@
 
 mod accept;
 pub mod factors;
+mod lazy;
 mod records;
 pub mod tables;
 
+use super::field::Field;
 use super::key::{self, MOST_ARRAYS};
 use super::{refuse, CompareRefusal, Counts, Refusal};
 use accept::accept;
+pub use lazy::Lazy;
 use records::write;
 
 /// The prime p.
@@ -22,12 +25,20 @@ type Shapes = [[u8; 2]; MOST_ARRAYS];
 
 /// A point made ready for weighing places: a way to multiply the factors of eq.
 pub trait Weights {
+    /// The field that the point's coordinates are from.
+    type Field: Lazy;
+
     /// The point made ready.
     fn new(rows: &[u32], columns: &[u32]) -> Self;
 
     /// The weights of places, each a row and a column: bit 0 of each is paired with the coordinate
     /// at `from`, and the last bit with the one before `to`, rows and columns apart.
-    fn weigh<const N: usize>(&self, places: [[u32; 2]; N], from: [u8; 2], to: [u8; 2]) -> [u32; N];
+    fn weigh<const N: usize>(
+        &self,
+        places: [[u32; 2]; N],
+        from: [u8; 2],
+        to: [u8; 2],
+    ) -> [Self::Field; N];
 }
 
 /// The counts of an accepted key, or the first of refusals 1 to 13.
@@ -43,16 +54,17 @@ fn check_with(key: &[u8], shapes: &mut Shapes) -> Result<Counts, Refusal> {
     }
 }
 
-/// Evaluate: check, 21, 22, 23, 31; every array's values on the sheet, array i's at 3i.
+/// Evaluate: check, 21, 22, 23, 31; every array's values on the sheet, array i's at 3i over p and at 6i
+/// over p².
 pub fn evaluate<W: Weights>(
     key: &[u8],
     rows: &[u32],
     columns: &[u32],
     sheet: &mut [u32],
-) -> Result<[u32; 3], Refusal> {
+) -> Result<[W::Field; 3], Refusal> {
     let mut shapes = [[0; 2]; MOST_ARRAYS];
     let counts = check_with(key, &mut shapes)?;
-    judge(counts, counts.arrays, rows, columns, sheet)?;
+    judge::<W::Field>(counts, counts.arrays, rows, columns, sheet)?;
     Ok(write(key, &shapes, &W::new(rows, columns), sheet))
 }
 
@@ -71,52 +83,54 @@ pub fn compare<W: Weights>(
     if (one.rows, one.columns) != (other.rows, other.columns) {
         return refuse(35, 0).map_err(of(0));
     }
-    judge(one, one.arrays.max(other.arrays), rows, columns, sheet).map_err(of(0))?;
+    let arrays = one.arrays.max(other.arrays);
+    judge::<W::Field>(one, arrays, rows, columns, sheet).map_err(of(0))?;
     let weights = W::new(rows, columns);
     let of_first = write(first, &shapes, &weights, sheet);
     let of_second = write(second, &other_shapes, &weights, sheet);
     Ok(of_first == of_second)
 }
 
-/// Refusals 21, 22, 23, and 31 for this number of arrays.
-fn judge(
+/// Refusals 21, 22 and 23, which count numbers, and 31 for this number of arrays.
+fn judge<F: Field>(
     counts: Counts,
     arrays: u32,
     rows: &[u32],
     columns: &[u32],
     sheet: &[u32],
 ) -> Result<(), Refusal> {
-    if rows.len() != counts.rows as usize {
+    if rows.len() != F::NUMBERS * counts.rows as usize {
         return refuse(21, rows.len());
     }
-    if columns.len() != counts.columns as usize {
+    if columns.len() != F::NUMBERS * counts.columns as usize {
         return refuse(22, columns.len());
     }
-    let mut coordinates = rows.iter().chain(columns);
-    if let Some(index) = coordinates.position(|&coordinate| coordinate >= P) {
+    let mut numbers = rows.iter().chain(columns);
+    if let Some(index) = numbers.position(|&number| number >= P) {
         return refuse(23, index);
     }
-    if sheet.len() < 3 * arrays as usize {
-        return refuse(31, 3 * arrays as usize);
+    let needed = 3 * F::NUMBERS * arrays as usize;
+    if sheet.len() < needed {
+        return refuse(31, needed);
     }
     Ok(())
 }
 
-/// The product modulo p of two numbers below p: 2^31 is 1 modulo p, so the high bits are added to
-/// the low ones.
+/// The number modulo p, of a number below 2·p.
 #[inline(always)]
-fn product(a: u32, b: u32) -> u32 {
-    let folded = fold(u64::from(a) * u64::from(b)) as u32;
-    match folded.overflowing_sub(P) {
-        (_, true) => folded,
+fn less_once(number: u64) -> u32 {
+    let number = number as u32;
+    match number.overflowing_sub(P) {
+        (_, true) => number,
         (less, false) => less,
     }
 }
 
-/// A number below 2^32 that equals a product of two numbers below p modulo p.
+/// A number that is the same modulo p, and smaller: 2^31 is 1 modulo p, so the high bits are added to
+/// the low ones. Of a product of two numbers below p it is below 2·p.
 #[inline(always)]
-fn fold(product: u64) -> u64 {
-    (product & u64::from(P)) + (product >> 31)
+fn fold(number: u64) -> u64 {
+    (number & u64::from(P)) + (number >> 31)
 }
 
 /// The number in four bytes of a record.

@@ -1,21 +1,27 @@
 //! The pass over the records of an accepted key.
 
-use super::{fold, id, word, Shapes, Weights, P};
+use super::{id, word, Lazy, Shapes, Weights};
+use crate::independent::field::Field;
 
 /// Writes every array's values of an accepted key at a point that fits it, and answers the last
 /// array's.
-pub fn write<W: Weights>(key: &[u8], shapes: &Shapes, weights: &W, sheet: &mut [u32]) -> [u32; 3] {
+pub fn write<W: Weights>(
+    key: &[u8],
+    shapes: &Shapes,
+    weights: &W,
+    sheet: &mut [u32],
+) -> [W::Field; 3] {
     let mut arrays = 0;
-    let mut values = [0; 3];
+    let mut values = [W::Field::default(); 3];
     let mut rest = &key[3..];
     while let [kind @ (2 | 3), _, _, behind @ ..] = rest {
-        let shape = shapes[arrays];
+        let to = shapes[arrays];
         (values, rest) = if *kind == 2 {
-            add_cells(behind, shape, weights)
+            add_cells(behind, to, weights)
         } else {
-            add_calls(behind, shape, &shapes[..arrays], weights, sheet)
+            add_calls(behind, to, &shapes[..arrays], weights, sheet)
         };
-        sheet[3 * arrays..3 * arrays + 3].copy_from_slice(&values);
+        put(sheet, arrays, values);
         arrays += 1;
     }
     values
@@ -24,24 +30,37 @@ pub fn write<W: Weights>(key: &[u8], shapes: &Shapes, weights: &W, sheet: &mut [
 /// The values of a sparse array, and the bytes behind its cells; two cells are weighed at a time.
 fn add_cells<'a, W: Weights>(
     mut rest: &'a [u8],
-    shape: [u8; 2],
+    to: [u8; 2],
     weights: &W,
-) -> ([u32; 3], &'a [u8]) {
-    let mut totals = [0; 3];
+) -> ([W::Field; 3], &'a [u8]) {
+    let mut totals = Default::default();
     while let Some((one, behind)) = cell(rest) {
         if let Some((other, behind)) = cell(behind) {
-            let places = [place_of_cell(one), place_of_cell(other)];
-            let [weight, other_weight] = weights.weigh(places, [0, 0], shape);
-            add(&mut totals, weight, values_of_cell(one));
-            add(&mut totals, other_weight, values_of_cell(other));
+            let both = [one, other];
+            let weights = weights.weigh(both.map(place_of_cell), [0, 0], to);
+            add_values(&mut totals, weights, both.map(values_of_cell));
             rest = behind;
         } else {
-            let [weight] = weights.weigh([place_of_cell(one)], [0, 0], shape);
-            add(&mut totals, weight, values_of_cell(one));
+            let weights = weights.weigh([place_of_cell(one)], [0, 0], to);
+            add_values(&mut totals, weights, [values_of_cell(one)]);
             rest = behind;
         }
     }
-    (totals.map(reduce), rest)
+    (totals.map(W::Field::reduce), rest)
+}
+
+/// Adds the values of cells times their weights.
+#[inline(always)]
+fn add_values<F: Lazy, const N: usize>(
+    totals: &mut [F::Sum; 3],
+    weights: [F; N],
+    values: [[u32; 3]; N],
+) {
+    for (weight, values) in weights.into_iter().zip(values) {
+        for (total, value) in totals.iter_mut().zip(values) {
+            F::add_value(total, weight, value);
+        }
+    }
 }
 
 /// The cell at the beginning, and the bytes behind it.
@@ -67,30 +86,45 @@ fn values_of_cell(record: &[u8; 21]) -> [u32; 3] {
 /// shape are weighed at a time.
 fn add_calls<'a, W: Weights>(
     mut rest: &'a [u8],
-    shape: [u8; 2],
+    to: [u8; 2],
     earlier: &[[u8; 2]],
     weights: &W,
     sheet: &[u32],
-) -> ([u32; 3], &'a [u8]) {
-    let mut totals = [0; 3];
+) -> ([W::Field; 3], &'a [u8]) {
+    let mut totals = Default::default();
     while let Some((one, behind)) = call(rest) {
         let called = earlier[id(one)];
         match call(behind) {
             Some((other, behind)) if earlier[id(other)] == called => {
-                let places = [place_of_call(one), place_of_call(other)];
-                let [weight, other_weight] = weights.weigh(places, called, shape);
-                add(&mut totals, weight, values_of_array(sheet, id(one)));
-                add(&mut totals, other_weight, values_of_array(sheet, id(other)));
+                let both = [one, other];
+                let weights = weights.weigh(both.map(place_of_call), called, to);
+                let values = both.map(|one| values_of_array(sheet, id(one)));
+                add_elements(&mut totals, weights, values);
                 rest = behind;
             }
             _ => {
-                let [weight] = weights.weigh([place_of_call(one)], called, shape);
-                add(&mut totals, weight, values_of_array(sheet, id(one)));
+                let weights = weights.weigh([place_of_call(one)], called, to);
+                let values = values_of_array(sheet, id(one));
+                add_elements(&mut totals, weights, [values]);
                 rest = behind;
             }
         }
     }
-    (totals.map(reduce), rest)
+    (totals.map(W::Field::reduce), rest)
+}
+
+/// Adds the values of called arrays times the calls' weights.
+#[inline(always)]
+fn add_elements<F: Lazy, const N: usize>(
+    totals: &mut [F::Sum; 3],
+    weights: [F; N],
+    values: [[F; 3]; N],
+) {
+    for (weight, values) in weights.into_iter().zip(values) {
+        for (total, value) in totals.iter_mut().zip(values) {
+            F::add_element(total, weight, value);
+        }
+    }
 }
 
 /// The call at the beginning, and the bytes behind it.
@@ -108,20 +142,16 @@ fn place_of_call(record: &[u8; 11]) -> [u32; 2] {
 
 /// The values of an array on the sheet.
 #[inline(always)]
-fn values_of_array(sheet: &[u32], id: usize) -> [u32; 3] {
-    [sheet[3 * id], sheet[3 * id + 1], sheet[3 * id + 2]]
+fn values_of_array<F: Field>(sheet: &[u32], id: usize) -> [F; 3] {
+    let places = &sheet[3 * F::NUMBERS * id..3 * F::NUMBERS * (id + 1)];
+    std::array::from_fn(|i| F::of_numbers(&places[F::NUMBERS * i..F::NUMBERS * (i + 1)]))
 }
 
-/// Adds three values times a weight. Each product is folded below 2^32, and a key has fewer than
-/// 2^16 records, so the sums stay below 2^48.
+/// Writes the values of an array on the sheet.
 #[inline(always)]
-fn add(totals: &mut [u64; 3], weight: u32, values: [u32; 3]) {
-    for (total, value) in totals.iter_mut().zip(values) {
-        *total += fold(u64::from(weight) * u64::from(value));
+fn put<F: Field>(sheet: &mut [u32], id: usize, values: [F; 3]) {
+    let places = &mut sheet[3 * F::NUMBERS * id..3 * F::NUMBERS * (id + 1)];
+    for (value, places) in values.into_iter().zip(places.chunks_exact_mut(F::NUMBERS)) {
+        value.put(places);
     }
-}
-
-/// A sum modulo p.
-fn reduce(total: u64) -> u32 {
-    (total % u64::from(P)) as u32
 }

@@ -1,12 +1,17 @@
 -- `compare::both::by_sides` meets its contract: the two passes on sides that are prepared once.
 use Prim.Native.Nat.{ℕ, _≤_}
 use mathlib.Core.List.{List}
-use mathlib.Core.Path.{_≡_, ap, ap₂, _∙_}
+use mathlib.Core.Path.{_≡_, refl, ap, ap₂, _∙_}
 use native.Mathlib.Omega.{arith}
 use borrow.Author.Needs.{needs}
 use lib.ListN.{length}
+use Rattle.field.specs.Scalars.{prime}
+use Rattle.field.proofs.Scalars.{prime-lawful}
+use Rattle.weights.specs.Words.{singles}
+use Rattle.weights.proofs.Singles.{singles-lawful}
 use Rattle.evaluate.specs.Sheet.{laid}
-use Rattle.evaluate.proofs.Passed.{sides-ready, sheet-extended, last-filled, last-extended}
+use Rattle.evaluate.proofs.Passed.{last-filled, last-extended}
+use Rattle.evaluate.proofs.Prepared.{sides-ready, sheet-prepared}
 use Rattle.evaluate.proofs.Sheets.{laid-length}
 use Rattle.compare.specs.Compare.{likeness}
 use Rattle.compare.proofs.both.by_sides.Statement.{statement}
@@ -44,7 +49,7 @@ over-requires c κs =
       (
         one .counted,
         (
-          sides-ready _ _ _ (one .point) _ (one .counted) _ _ (rows columns .prepare .ensures) (columns .prepare2 .ensures),
+          sides-ready singles singles-lawful _ _ _ (one .point) _ _ (rows columns .prepare .ensures) (columns .prepare2 .ensures) _ refl refl,
           one .room,
         ),
       ),
@@ -55,8 +60,8 @@ last-requires c κs =
     let ran = c .before .before .before in
     let sides = ran .before .before .before .before .before .before in
     let one = begun sides .pre .0 in
-    last-filled _ _ _ (one .point) _ (one .counted) _ _ (one .room)
-    (sheet-extended _ _ _ (one .point) _ (one .counted) _ _ (rows sides .prepare .ensures) (sides .prepare2 .ensures) _ _
+    last-filled prime prime-lawful _ _ _ (one .point) _ (one .counted) _ _ (one .room)
+    (sheet-prepared singles singles-lawful _ _ _ (one .point) _ _ (rows sides .prepare .ensures) (sides .prepare2 .ensures) _ (one .counted) _ _
     (ran .over .ensures))
 
 over-requires-2 : tie.Need-over-requires-2
@@ -66,13 +71,13 @@ over-requires-2 c κs =
     let one = begun sides .pre .0 in
     let other = begun sides .pre .1 .0 in
     let written =
-    sheet-extended _ _ _ (one .point) _ (one .counted) _ _ (rows sides .prepare .ensures) (sides .prepare2 .ensures) _ _
+    sheet-prepared singles singles-lawful _ _ _ (one .point) _ _ (rows sides .prepare .ensures) (sides .prepare2 .ensures) _ (one .counted) _ _
     (ran .over .ensures) in (
       other .indexed,
       (
         other .counted,
         (
-          sides-ready _ _ _ (other .point) _ (other .counted) _ _ (rows sides .prepare .ensures) (sides .prepare2 .ensures),
+          sides-ready singles singles-lawful _ _ _ (other .point) _ _ (rows sides .prepare .ensures) (sides .prepare2 .ensures) _ refl refl,
           still-room _ _ _ _ _ written (other .room),
         ),
       ),
@@ -86,10 +91,10 @@ last-requires-2 c κs =
     let one = begun sides .pre .0 in
     let other = begun sides .pre .1 .0 in
     let written =
-    sheet-extended _ _ _ (one .point) _ (one .counted) _ _ (rows sides .prepare .ensures) (sides .prepare2 .ensures) _ _
+    sheet-prepared singles singles-lawful _ _ _ (one .point) _ _ (rows sides .prepare .ensures) (sides .prepare2 .ensures) _ (one .counted) _ _
     (ran .over .ensures) in
-    last-filled _ _ _ (other .point) _ (other .counted) _ _ (still-room _ _ _ _ _ written (other .room))
-    (sheet-extended _ _ _ (other .point) _ (other .counted) _ _ (rows sides .prepare .ensures) (sides .prepare2 .ensures) _ _
+    last-filled prime prime-lawful _ _ _ (other .point) _ (other .counted) _ _ (still-room _ _ _ _ _ written (other .room))
+    (sheet-prepared singles singles-lawful _ _ _ (other .point) _ _ (rows sides .prepare .ensures) (sides .prepare2 .ensures) _ (other .counted) _ _
     (ran-2 .over2 .ensures))
 
 likeness-requires : tie.Need-likeness-requires
@@ -112,15 +117,15 @@ returns c =
     let one = begun sides .pre .0 in
     let other = begun sides .pre .1 .0 in
     let written =
-    sheet-extended _ _ _ (one .point) _ (one .counted) _ _ (rows sides .prepare .ensures) (sides .prepare2 .ensures) _ _
+    sheet-prepared singles singles-lawful _ _ _ (one .point) _ _ (rows sides .prepare .ensures) (sides .prepare2 .ensures) _ (one .counted) _ _
     (ran .over .ensures) in
     let written-2 =
-    sheet-extended _ _ _ (other .point) _ (other .counted) _ _ (rows sides .prepare .ensures) (sides .prepare2 .ensures) _ _
+    sheet-prepared singles singles-lawful _ _ _ (other .point) _ _ (rows sides .prepare .ensures) (sides .prepare2 .ensures) _ (other .counted) _ _
     (ran-2 .over2 .ensures) in (
       c .likeness .ensures
-          ∙ ap₂ likeness
-          (last-extended _ _ _ (one .point) _ (one .counted) _ _ (one .room) written _ (ran-2 .before .before .before .before .last .ensures))
-          (last-extended _ _ _ (other .point) _ (other .counted) _ _ (still-room _ _ _ _ _ written (other .room)) written-2 _
+          ∙ ap₂ (likeness prime)
+          (last-extended prime prime-lawful _ _ _ (one .point) _ (one .counted) _ _ (one .room) written _ (ran-2 .before .before .before .before .last .ensures))
+          (last-extended prime prime-lawful _ _ _ (other .point) _ (other .counted) _ _ (still-room _ _ _ _ _ written (other .room)) written-2 _
           (c .before .last2 .ensures)),
       written-2 ∙ ap (laid 0 _ _) written,
     )

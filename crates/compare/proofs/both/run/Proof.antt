@@ -1,6 +1,8 @@
 -- `compare::both::run` meets its contract: with limbs and without them the passes come to the same.
 use native.Mathlib.Omega.{arith}
 use borrow.Author.Needs.{needs}
+use Rattle.weights.specs.Words.{singles}
+use Rattle.weights.proofs.Singles.{singles-lawful}
 use Rattle.weights.proofs.Zeros.{zeros-ready}
 use Rattle.compare.proofs.both.run.Statement.{statement}
 use Rattle.compare.proofs.both.run.Tie as tie
@@ -29,7 +31,7 @@ slice-aggregate-by-sides-2 c = search needs
 by-sides-requires : tie.Need-by-sides-requires
 by-sides-requires c κs =
     let a = c .before .before .before .before .before .before .before .before .before .before .before .before .before .before in
-    let ready = zeros-ready 448 (omega arith) (λ l. omega arith) in
+    let ready = zeros-ready singles singles-lawful 448 (omega arith) (λ l. omega arith) in
     (a .pre .0, (a .pre .1, (ready, ready)))
 
 same-length : tie.Need-same-length
@@ -47,7 +49,7 @@ slice-aggregate-by-sides-4 c = search needs
 by-sides-requires-2 : tie.Need-by-sides-requires-2
 by-sides-requires-2 c κs =
     let a = c .before .before .before .before .before .before .before .before .before .before .before .before .before .before in
-    let ready = zeros-ready 64 (omega arith) (λ l. omega arith) in
+    let ready = zeros-ready singles singles-lawful 64 (omega arith) (λ l. omega arith) in
     (a .pre .0, (a .pre .1, (ready, ready)))
 
 same-length-2 : tie.Need-same-length-2

@@ -3,20 +3,23 @@ use Prim.Native.Nat.{_+_, _-_, _≤_, _<_}
 use native.Mathlib.Omega.{arith}
 use denote.Ref.{now}
 use lib.ListN.{length, getD}
+use Rattle.field.specs.Scalars.{prime}
 use Rattle.weights.specs.Side.{prepared}
+use Rattle.weights.specs.Words.{singles}
 use Rattle.key.specs.KeyArrays.{keyArrays}
-use Rattle.evaluate.specs.Inner.{reducedIn, Light}
+use Rattle.evaluate.specs.Inner.{ReachedIn, reducedIn, Light}
 use Rattle.evaluate.proofs.Added.{calls-done}
 use Rattle.evaluate.proofs.Adding.{CallsLeft, calls-begun}
 use Rattle.evaluate.proofs.Indexing.{accepts, entries-run, opening-inside}
 use Rattle.evaluate.proofs.Sums.{Bounded, bounded-light, bounded-onward}
+use Rattle.evaluate.proofs.Prepared.{rows-further, columns-further}
 use Rattle.evaluate.proofs.Turns.{call-room, call-called, call-added}
 use Rattle.evaluate.proofs.array.calls.Statement.{statement}
 use Rattle.evaluate.proofs.array.calls.Tie as tie
 
 abbrev Inv-loop : tie.InvT-loop
 Inv-loop key starts arrays i reached rowwise columnwise sheet to sums₀ at₀ sums at =
-    CallsLeft key (prepared rowwise) (prepared columnwise) sheet i to (reducedIn sums) at × Bounded sums at
+    CallsLeft prime key (prepared singles rowwise) (prepared singles columnwise) sheet i to (reducedIn sums) at × Bounded sums at
 
 abbrev μ-loop : tie.MeasureT-loop
 μ-loop key starts arrays i reached rowwise columnwise sheet to sums₀ at₀ sums at = to - at
@@ -32,6 +35,9 @@ module _ (a : tie.Start Inv-loop μ-loop) where
   offset-small :
       (getD (now (a .args .starts)) (a .args .i) 0 + 3 ≤ length (now (a .args .key))) × (length (now (a .args .key)) ≤ 65536)
   offset-small = opening-inside _ _ (a .pre .0) (a .args .i) inside
+
+  far : ReachedIn singles (keyArrays (now (a .args .key))) (a .args .i) (a .args .reached) (now (a .args .rowwise)) (now (a .args .columnwise))
+  far = a .pre .1 .1 .1 .1 .0
 
 behind-requires : tie.Need-behind-requires Inv-loop μ-loop
 behind-requires c κs = let a = c .before .before .before .before .before in (a .pre .0, (a .pre .1 .0, a .pre .1 .1 .0))
@@ -53,7 +59,7 @@ loop-holds : tie.Need-loop-holds Inv-loop μ-loop
 loop-holds c =
     let a = begun c in (
       rw (c .before .behind .ensures)
-          (calls-begun _ _ _ _ _ _ _ (entries-run _ _ (a .pre .0) (a .args .i) (inside a))
+          (calls-begun prime _ _ _ _ _ _ _ (entries-run _ _ (a .pre .0) (a .args .i) (inside a))
           (accepts _ _ (a .pre .0) .well-formed .arrays-fit (a .args .i) (inside a) .entries-fit) (a .pre .1 .1 .1 .0)),
       record { a-bound = omega arith; b-bound = omega arith; c-bound = omega arith },
     )
@@ -65,7 +71,8 @@ start c = begun (c .before .before)
 room : (c : tie.In-loop Inv-loop μ-loop) → c .before .loop .at + 11 ≤ length (now (start c .args .key))
 room c =
     let a = start c in
-    call-room _ _ _ _ _ _ (a .args .reached) (a .pre .1 .1 .1 .1 .0) _ _ (c .loop-test .taken) (c .before .loop .inv .0)
+    call-room prime _ _ _ _ _ _ (a .args .reached) (rows-further singles (far a))
+    (columns-further singles (far a)) _ _ (c .loop-test .taken) (c .before .loop .inv .0)
 
 add-call : tie.Need-add-call Inv-loop μ-loop
 add-call c = omega (arith, room c, offset-small (start c) .1)
@@ -80,13 +87,13 @@ light c = bounded-light _ (c .before .loop .at) (omega (arith, room c, offset-sm
 call-requires-2 : tie.Need-call-requires-2 Inv-loop μ-loop
 call-requires-2 c κs =
     let t = c .before in
-    let a = start t in
-    let far = a .pre .1 .1 .1 .1 .0 in (
+    let a = start t in (
       a .pre .0,
       (
-        call-called _ _ _ _ _ _ (a .args .reached) far _ _ (t .loop-test .taken) (t .before .loop .inv .0) _ (c .call .ensures)
+        call-called prime _ _ _ _ _ _ (a .args .reached) (rows-further singles (far a))
+            (columns-further singles (far a)) _ _ (t .loop-test .taken) (t .before .loop .inv .0) _ (c .call .ensures)
             (inside a) (a .pre .1 .1 .1 .1 .1),
-        (far .rows-reached .side, (far .columns-reached .side, light t)),
+        (far a .rows-reached .side, (far a .columns-reached .side, light t)),
       ),
     )
 
@@ -100,13 +107,14 @@ loop-again : tie.Need-loop-again Inv-loop μ-loop
 loop-again c =
     let t = c .before .before in
     let a = start t in (
-      call-added _ _ _ _ _ _ (a .args .reached) (a .pre .1 .1 .1 .1 .0) _ _ (t .loop-test .taken) (t .before .loop .inv .0) _
+      call-added prime _ _ _ _ _ _ (a .args .reached) (rows-further singles (far a))
+          (columns-further singles (far a)) _ _ (t .loop-test .taken) (t .before .loop .inv .0) _
           (c .before .call .ensures) _ (c .call2 .ensures .is),
       bounded-onward _ _ _ _ _ (omega arith) (c .call2 .ensures) (t .before .loop .inv .1),
     )
 
 returns : tie.Need-returns Inv-loop μ-loop
-returns c = calls-done _ _ _ _ _ _ _ _ (omega (arith, c .loop-test .left)) (c .before .loop .inv .0)
+returns c = calls-done prime _ _ _ _ _ _ _ _ (omega (arith, c .loop-test .left)) (c .before .loop .inv .0)
 
 pub calls-spec : {M : Type 1} → statement M
 calls-spec =

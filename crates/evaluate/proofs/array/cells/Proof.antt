@@ -4,13 +4,16 @@ use mathlib.Core.List.{List, []}
 use native.Mathlib.Omega.{arith}
 use denote.Ref.{now}
 use lib.ListN.{length, getD}
+use Rattle.field.specs.Scalars.{prime}
 use Rattle.weights.specs.Side.{prepared}
+use Rattle.weights.specs.Words.{singles}
 use Rattle.key.specs.KeyArrays.{keyArrays}
-use Rattle.evaluate.specs.Inner.{reducedIn, Light}
+use Rattle.evaluate.specs.Inner.{ReachedIn, reducedIn, Light}
 use Rattle.evaluate.proofs.Added.{cells-done}
 use Rattle.evaluate.proofs.Adding.{CellsLeft, cells-begun}
 use Rattle.evaluate.proofs.Indexing.{accepts, entries-run, opening-inside}
 use Rattle.evaluate.proofs.Sums.{Bounded, bounded-light, bounded-onward}
+use Rattle.evaluate.proofs.Prepared.{rows-further, columns-further}
 use Rattle.evaluate.proofs.Turns.{cell-room, cell-below, cell-added}
 use Rattle.evaluate.proofs.array.cells.Statement.{statement}
 use Rattle.evaluate.proofs.array.cells.Tie as tie
@@ -18,7 +21,7 @@ use Rattle.evaluate.proofs.array.cells.Tie as tie
 -- what is left to add is the same for every sheet
 abbrev Inv-loop : tie.InvT-loop
 Inv-loop key starts arrays i reached rowwise columnwise to sums₀ at₀ sums at =
-    ((sheet : List ℕ) → CellsLeft key (prepared rowwise) (prepared columnwise) sheet i to (reducedIn sums) at) × Bounded sums at
+    ((sheet : List ℕ) → CellsLeft prime key (prepared singles rowwise) (prepared singles columnwise) sheet i to (reducedIn sums) at) × Bounded sums at
 
 abbrev μ-loop : tie.MeasureT-loop
 μ-loop key starts arrays i reached rowwise columnwise to sums₀ at₀ sums at = to - at
@@ -34,6 +37,9 @@ module _ (a : tie.Start Inv-loop μ-loop) where
   offset-small :
       (getD (now (a .args .starts)) (a .args .i) 0 + 3 ≤ length (now (a .args .key))) × (length (now (a .args .key)) ≤ 65536)
   offset-small = opening-inside _ _ (a .pre .0) (a .args .i) inside
+
+  far : ReachedIn singles (keyArrays (now (a .args .key))) (a .args .i) (a .args .reached) (now (a .args .rowwise)) (now (a .args .columnwise))
+  far = a .pre .1 .1 .1 .1
 
 behind-requires : tie.Need-behind-requires Inv-loop μ-loop
 behind-requires c κs = let a = c .before .before .before .before in (a .pre .0, (a .pre .1 .0, a .pre .1 .1 .0))
@@ -55,7 +61,7 @@ loop-holds : tie.Need-loop-holds Inv-loop μ-loop
 loop-holds c =
     let a = begun c in (
       λ sheet. rw (c .before .behind .ensures)
-          (cells-begun _ _ _ _ _ _ _ (entries-run _ _ (a .pre .0) (a .args .i) (inside a))
+          (cells-begun prime _ _ _ _ _ _ _ (entries-run _ _ (a .pre .0) (a .args .i) (inside a))
           (accepts _ _ (a .pre .0) .well-formed .arrays-fit (a .args .i) (inside a) .entries-fit) (a .pre .1 .1 .1 .0)),
       record { a-bound = omega arith; b-bound = omega arith; c-bound = omega arith },
     )
@@ -67,7 +73,8 @@ start c = begun (c .before .before)
 room : (c : tie.In-loop Inv-loop μ-loop) → c .before .loop .at + 21 ≤ length (now (start c .args .key))
 room c =
     let a = start c in
-    cell-room _ _ _ _ _ _ (a .args .reached) (a .pre .1 .1 .1 .1) _ _ (c .loop-test .taken) (c .before .loop .inv .0 [])
+    cell-room prime _ _ _ _ _ _ (a .args .reached) (rows-further singles (far a))
+    (columns-further singles (far a)) _ _ (c .loop-test .taken) (c .before .loop .inv .0 [])
 
 add-cell : tie.Need-add-cell Inv-loop μ-loop
 add-cell c = omega (arith, room c, offset-small (start c) .1)
@@ -82,10 +89,10 @@ light c = bounded-light _ (c .before .loop .at) (omega (arith, room c, offset-sm
 cell-requires-2 : tie.Need-cell-requires-2 Inv-loop μ-loop
 cell-requires-2 c κs =
     let t = c .before in
-    let a = start t in
-    let far = a .pre .1 .1 .1 .1 in (
-      cell-below _ _ _ _ _ _ (a .args .reached) far _ _ (t .loop-test .taken) (t .before .loop .inv .0 []) _ (c .cell .ensures),
-      (far .rows-reached .side, (far .columns-reached .side, light t)),
+    let a = start t in (
+      cell-below prime _ _ _ _ _ _ (a .args .reached) (rows-further singles (far a))
+          (columns-further singles (far a)) _ _ (t .loop-test .taken) (t .before .loop .inv .0 []) _ (c .cell .ensures),
+      (far a .rows-reached .side, (far a .columns-reached .side, light t)),
     )
 
 add-at-2 : tie.Need-add-at-2 Inv-loop μ-loop
@@ -98,13 +105,14 @@ loop-again : tie.Need-loop-again Inv-loop μ-loop
 loop-again c =
     let t = c .before .before in
     let a = start t in (
-      λ sheet. cell-added _ _ _ _ _ _ (a .args .reached) (a .pre .1 .1 .1 .1) _ _ (t .loop-test .taken) (t .before .loop .inv .0 sheet) _
+      λ sheet. cell-added prime _ _ _ _ _ _ (a .args .reached) (rows-further singles (far a))
+          (columns-further singles (far a)) _ _ (t .loop-test .taken) (t .before .loop .inv .0 sheet) _
           (c .before .cell .ensures) _ (c .cell2 .ensures .is),
       bounded-onward _ _ _ _ _ (omega arith) (c .cell2 .ensures) (t .before .loop .inv .1),
     )
 
 returns : tie.Need-returns Inv-loop μ-loop
-returns c sheet = cells-done _ _ _ _ _ _ _ _ (omega (arith, c .loop-test .left)) (c .before .loop .inv .0 sheet)
+returns c sheet = cells-done prime _ _ _ _ _ _ _ _ (omega (arith, c .loop-test .left)) (c .before .loop .inv .0 sheet)
 
 pub cells-spec : {M : Type 1} → statement M
 cells-spec =

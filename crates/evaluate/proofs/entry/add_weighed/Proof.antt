@@ -37,7 +37,7 @@ is c =
     c .product .ensures .0 ∙ ap₂ (λ (x y : ℕ). fp .mul x y) (c .before .before .folded .ensures .0) (c .before .folded2 .ensures .0)
 
 times-requires : tie.Need-times-requires
-times-requires c κs = (small c, c .before .before .before .pre .1 .a-below)
+times-requires c κs = (small c, c .before .before .before .pre .1 .a-below .0)
 
 add-t7 : tie.Need-add-t7
 add-t7 c =
@@ -45,7 +45,7 @@ add-t7 c =
     omega (arith, c .before .times .ensures .1, small (c .before .before), a .pre .0 .a-light)
 
 times-requires-2 : tie.Need-times-requires-2
-times-requires-2 c κs = (small (c .before .before), c .before .before .before .before .before .pre .1 .b-below)
+times-requires-2 c κs = (small (c .before .before), c .before .before .before .before .before .pre .1 .b-below .0)
 
 add-t9 : tie.Need-add-t9
 add-t9 c =
@@ -53,7 +53,7 @@ add-t9 c =
     omega (arith, c .before .times2 .ensures .1, small (c .before .before .before .before), a .pre .0 .b-light)
 
 times-requires-3 : tie.Need-times-requires-3
-times-requires-3 c κs = (small (c .before .before .before .before), c .before .before .before .before .before .before .before .pre .1 .c-below)
+times-requires-3 c κs = (small (c .before .before .before .before), c .before .before .before .before .before .before .before .pre .1 .c-below .0)
 
 add-t11 : tie.Need-add-t11
 add-t11 c =

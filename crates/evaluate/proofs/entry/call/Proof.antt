@@ -3,9 +3,11 @@ use mathlib.Core.Path.{ap, ap₂, subst, _∙_}
 use denote.Ref.{now}
 use borrow.Author.Needs.{needs}
 use Rattle.field.specs.Fp.{fp}
+use Rattle.field.specs.Scalars.{prime}
 use Rattle.records.specs.declared.Shape.{Shape}
 use Rattle.arrays.specs.Arrays.{Values}
 use Rattle.weights.specs.Side.{prepared}
+use Rattle.weights.specs.Words.{singles}
 use Rattle.evaluate.specs.Inner.{reducedIn, Grown, addedTo}
 use Rattle.evaluate.proofs.entry.call.Statement.{statement}
 use Rattle.evaluate.proofs.entry.call.Tie as tie
@@ -65,12 +67,12 @@ returns c =
     let a = begun shaped in
     let called = shaped .shape .ensures in
     subst (λ (v : Values). Grown (a .args .sums) v (c .add-weighed .result))
-    (ap₂ (addedTo (reducedIn (a .args .sums))) (valued .values .ensures)
+    (ap₂ (addedTo prime (reducedIn (a .args .sums))) (valued .values .ensures)
     (ap₂ (fp .mul)
     (weighed .before .before .before .factor .ensures .is
-    ∙ ap (λ (s : Shape). prepared (now (a .args .rowwise)) .factor (a .args .shape .rows) (s .rows) (a .args .c .down)) called)
+    ∙ ap (λ (s : Shape). prepared singles (now (a .args .rowwise)) .factor (a .args .shape .rows) (s .rows) (a .args .c .down)) called)
     (weighed .factor2 .ensures .is
-    ∙ ap (λ (s : Shape). prepared (now (a .args .columnwise)) .factor (a .args .shape .columns) (s .columns) (a .args .c .right))
+    ∙ ap (λ (s : Shape). prepared singles (now (a .args .columnwise)) .factor (a .args .shape .columns) (s .columns) (a .args .c .right))
     called)))
     (c .add-weighed .ensures)
 

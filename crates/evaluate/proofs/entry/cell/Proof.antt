@@ -5,9 +5,11 @@ use native.Mathlib.Omega.{arith}
 use denote.Ref.{now}
 use borrow.Author.Needs.{needs}
 use Rattle.field.specs.Fp.{fp}
+use Rattle.field.specs.Scalars.{prime}
 use Rattle.arrays.specs.Arrays.{Values}
 use Rattle.multilinear.specs.Eq.{bitwise}
 use Rattle.weights.specs.Side.{pairs}
+use Rattle.weights.specs.Words.{singles}
 use Rattle.evaluate.specs.Inner.{reducedIn, Grown, addedTo}
 use Rattle.key.specs.KeyArrays.{cellIn}
 use Rattle.evaluate.proofs.entry.cell.Statement.{statement}
@@ -52,13 +54,13 @@ returns c =
     let a = new .before .before .before .before .before in
     subst (λ (v : Values). Grown (a .args .sums) v (c .add-weighed .result))
     (rw (new .new3 .ensures, new .before .new2 .ensures, new .before .before .new .ensures)
-    (ap (addedTo (reducedIn (a .args .sums)) (cellIn (a .args .c) .values))
+    (ap (addedTo prime (reducedIn (a .args .sums)) (cellIn (a .args .c) .values))
     (ap₂ (fp .mul)
     (weighed .before .before .weigh .ensures .is
-    ∙ ap (λ (n : ℕ). bitwise fp (pairs (now (a .args .rowwise))) n 0 (a .args .c .row))
+    ∙ ap (λ (n : ℕ). bitwise fp (pairs singles (now (a .args .rowwise))) n 0 (a .args .c .row))
     (let rows : a .args .shape .rows - 0 ≡ a .args .shape .rows = omega arith in rows))
     (weighed .weigh2 .ensures .is
-    ∙ ap (λ (n : ℕ). bitwise fp (pairs (now (a .args .columnwise))) n 0 (a .args .c .column))
+    ∙ ap (λ (n : ℕ). bitwise fp (pairs singles (now (a .args .columnwise))) n 0 (a .args .c .column))
     (let columns : a .args .shape .columns - 0 ≡ a .args .shape .columns = omega arith in columns)))))
     (c .add-weighed .ensures)
 

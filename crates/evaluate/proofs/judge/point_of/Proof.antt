@@ -1,5 +1,7 @@
-use Prim.Native.Nat.{ℕ, _+_}
+use Prim.Native.Nat.{ℕ, _+_, _≤_}
 use mathlib.Core.Path.{sym, ap, _∙_}
+use native.Mathlib.Nat.{mul-le-mul}
+use native.Mathlib.Omega.{arith}
 use denote.Ref.{now}
 use borrow.Author.Needs.{needs}
 use lib.ListN.{length}
@@ -14,14 +16,26 @@ use Rattle.evaluate.proofs.judge.point_of.Tie as tie
 cast-if1 : tie.Need-cast-if1
 cast-if1 c = search needs
 
+mul-if1 : tie.Need-mul-if1
+mul-if1 c =
+    let a = c .before .before .before in
+    let few : a .args .counts .rows ≤ 255 = omega (arith, c .struct-known .given) in
+    omega (arith, mul-le-mul (a .pre) few)
+
 refused-requires : tie.Need-refused-requires
 refused-requires c κs = search needs
 
 returns : tie.Need-returns
-returns c = c .refused .ensures ∙ sym (row-count-wrong _ _ _ (c .before .if1 .taken))
+returns c = c .refused .ensures ∙ sym (row-count-wrong _ _ _ _ (c .before .if1 .taken))
 
 cast-if2 : tie.Need-cast-if2
 cast-if2 c = search needs
+
+mul-if2 : tie.Need-mul-if2
+mul-if2 c =
+    let a = c .before .before .before .before .before in
+    let few : a .args .counts .columns ≤ 255 = omega (arith, c .struct-known2 .given) in
+    omega (arith, mul-le-mul (a .pre) few)
 
 refused-requires-2 : tie.Need-refused-requires-2
 refused-requires-2 c κs = search needs
@@ -29,7 +43,7 @@ refused-requires-2 c κs = search needs
 returns-2 : tie.Need-returns-2
 returns-2 c =
     c .refused2 .ensures
-    ∙ sym (column-count-wrong _ _ _ (c .before .before .before .if1 .left) (c .before .if2 .taken))
+    ∙ sym (column-count-wrong _ _ _ _ (c .before .before .before .if1 .left) (c .before .if2 .taken))
 
 first-over-requires : tie.Need-first-over-requires
 first-over-requires c κs = search needs
@@ -41,7 +55,7 @@ returns-3 : tie.Need-returns-3
 returns-3 c =
     let judged = c .before .before .before in
     c .refused3 .ensures ∙ ap (refuse Reason.CoordinateTooGreat) (c .before .before .first-over .ensures)
-    ∙ sym (row-over _ _ _ (judged .before .before .if1 .left) (judged .if2 .left)
+    ∙ sym (row-over _ _ _ _ (judged .before .before .if1 .left) (judged .if2 .left)
     (rw (c .before .before .first-over .ensures) at (c .before .if3 .taken)))
 
 first-over-requires-2 : tie.Need-first-over-requires-2
@@ -60,14 +74,14 @@ returns-4 c =
     c .refused4 .ensures
     ∙ ap (λ (j : ℕ). refuse Reason.CoordinateTooGreat (length (now (a .args .rows)) + j))
     (c .before .before .first-over2 .ensures)
-    ∙ sym (column-over _ _ _ (judged .before .before .if1 .left) (judged .if2 .left)
+    ∙ sym (column-over _ _ _ _ (judged .before .before .if1 .left) (judged .if2 .left)
     (rw (c .before .before .before .before .first-over .ensures) at (c .before .before .before .if3 .left))
     (rw (c .before .before .first-over2 .ensures) at (c .before .if4 .taken)))
 
 returns-5 : tie.Need-returns-5
 returns-5 c =
     let judged = c .before .before .before .before in
-    sym (point-given _ _ _ (judged .before .before .if1 .left) (judged .if2 .left)
+    sym (point-given _ _ _ _ (judged .before .before .if1 .left) (judged .if2 .left)
     (rw (c .before .before .before .first-over .ensures) at (c .before .before .if3 .left))
     (rw (c .before .first-over2 .ensures) at (c .if4 .left)))
 
@@ -76,9 +90,11 @@ point-of-spec =
     tie.close
     (tie.spec
     cast-if1
+    mul-if1
     refused-requires
     returns
     cast-if2
+    mul-if2
     refused-requires-2
     returns-2
     first-over-requires

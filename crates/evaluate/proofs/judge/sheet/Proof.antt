@@ -10,7 +10,7 @@ enum-known-checked-2 : tie.Need-enum-known-checked-2
 enum-known-checked-2 c = search needs
 
 sheet-of-requires : tie.Need-sheet-of-requires
-sheet-of-requires c κs = rw (c .before .checked2 .given .1) at (c .before .before .before .pre)
+sheet-of-requires c κs = (c .before .before .before .pre .0, rw (c .before .checked2 .given .1) at (c .before .before .before .pre .1))
 
 returns : tie.Need-returns
 returns c = rw (c .before .checked .given .1)

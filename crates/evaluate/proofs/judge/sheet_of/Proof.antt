@@ -1,12 +1,14 @@
 -- `evaluate::judge::sheet_of` meets its contract: the places are counted.
 use mathlib.Core.Path.{sym, _∙_}
+use native.Mathlib.Nat.{mul-le-mul}
+use native.Mathlib.Omega.{arith}
 use borrow.Author.Needs.{needs}
 use Rattle.evaluate.proofs.Judgements.{sheet-short, sheet-enough}
 use Rattle.evaluate.proofs.judge.sheet_of.Statement.{statement}
 use Rattle.evaluate.proofs.judge.sheet_of.Tie as tie
 
 mul-needed : tie.Need-mul-needed
-mul-needed c = search needs
+mul-needed c = let a = c .before in omega (arith, mul-le-mul (a .pre .0) (a .pre .1))
 
 refused-requires : tie.Need-refused-requires
 refused-requires c κs = search needs

@@ -1,6 +1,9 @@
 -- `evaluate::pass::by_sides` meets its contract: on prepared sides the pass writes the extensions at the point.
+use mathlib.Core.Path.{refl}
 use borrow.Author.Needs.{needs}
-use Rattle.evaluate.proofs.Passed.{sides-ready, sheet-extended}
+use Rattle.weights.specs.Words.{singles}
+use Rattle.weights.proofs.Singles.{singles-lawful}
+use Rattle.evaluate.proofs.Prepared.{sides-ready, sheet-prepared}
 use Rattle.evaluate.proofs.pass.by_sides.Statement.{statement}
 use Rattle.evaluate.proofs.pass.by_sides.Tie as tie
 
@@ -31,7 +34,8 @@ over-requires c κs =
       (
         a .pre .1 .0,
         (
-          sides-ready _ _ _ (a .pre .1 .1 .0) _ (a .pre .1 .0) _ _ (rows columns .prepare .ensures) (columns .prepare2 .ensures),
+          sides-ready singles singles-lawful _ _ _ (a .pre .1 .1 .0) _ _ (rows columns .prepare .ensures) (columns .prepare2 .ensures) _ refl
+              refl,
           a .pre .1 .1 .1 .0,
         ),
       ),
@@ -50,7 +54,7 @@ returns : tie.Need-returns
 returns c =
     let columns = c .before .before .before .before .before .before .before .before in
     let a = begun columns in
-    sheet-extended _ _ _ (a .pre .1 .1 .0) _ (a .pre .1 .0) _ _ (rows columns .prepare .ensures) (columns .prepare2 .ensures) _ _
+    sheet-prepared singles singles-lawful _ _ _ (a .pre .1 .1 .0) _ _ (rows columns .prepare .ensures) (columns .prepare2 .ensures) _ (a .pre .1 .0) _ _
     (c .before .before .over .ensures)
 
 pub by-sides-spec : {M : Type 1} → statement M

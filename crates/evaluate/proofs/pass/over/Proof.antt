@@ -5,13 +5,17 @@ use denote.Ref.{now}
 use lib.ListN.{length}
 use Rattle.key.specs.KeyArrays.{keyArrays}
 use Rattle.key.proofs.Acceptance.{acceptance}
+use Rattle.field.specs.Scalars.{prime}
+use Rattle.field.proofs.Scalars.{prime-lawful}
 use Rattle.weights.specs.Side.{prepared}
+use Rattle.weights.specs.Words.{singles}
 use Rattle.evaluate.proofs.Passing.{Passing, passing-begun, passing-length, passing-filled, passing-turn, passing-done}
 use Rattle.evaluate.proofs.pass.over.Statement.{statement}
 use Rattle.evaluate.proofs.pass.over.Tie as tie
 
 abbrev Inv-loop : tie.InvT-loop
-Inv-loop key starts arrays most rowwise columnwise sheet₀ i₀ sheet i = Passing (keyArrays key) (prepared rowwise) (prepared columnwise) sheet₀ i sheet
+Inv-loop key starts arrays most rowwise columnwise sheet₀ i₀ sheet i =
+    Passing prime prime-lawful (keyArrays key) (prepared singles rowwise) (prepared singles columnwise) sheet₀ i sheet
 
 abbrev μ-loop : tie.MeasureT-loop
 μ-loop key starts arrays most rowwise columnwise sheet₀ i₀ sheet i = arrays - i
@@ -24,13 +28,13 @@ room : (a : tie.Start Inv-loop μ-loop) → 3 * length (keyArrays (now (a .args 
 room a = omega (arith, a .pre .1 .0, a .pre .1 .1 .1)
 
 loop-holds : tie.Need-loop-holds Inv-loop μ-loop
-loop-holds c = passing-begun _ _ _ _
+loop-holds c = passing-begun prime prime-lawful _ _ _ _
 
 values-requires : tie.Need-values-requires Inv-loop μ-loop
 values-requires c κs =
     let t = c .before .before in
     let a = start t in
-    let filled = passing-filled _ _ _ _ (room a) _ _ (t .loop .inv) in (
+    let filled = passing-filled prime prime-lawful _ _ _ _ (room a) _ _ (t .loop .inv) in (
       a .pre .0,
       (a .pre .1 .0, (c .before .loop-test .taken, (a .pre .1 .1 .0, filled))),
     )
@@ -39,7 +43,7 @@ put-requires : tie.Need-put-requires Inv-loop μ-loop
 put-requires c κs =
     let t = c .before .before .before .before in
     let a = start t in
-    omega (arith, passing-length _ _ _ _ (room a) _ _ (t .loop .inv), c .before .before .before .loop-test .taken, room a, a .pre .1 .0)
+    omega (arith, passing-length prime prime-lawful _ _ _ _ (room a) _ _ (t .loop .inv), c .before .before .before .loop-test .taken, room a, a .pre .1 .0)
 
 add-i : tie.Need-add-i Inv-loop μ-loop
 add-i c = omega arith
@@ -51,16 +55,16 @@ loop-again : tie.Need-loop-again Inv-loop μ-loop
 loop-again c =
     let t = c .before .before .before .before .before .before .before in
     let a = start t in
-    passing-turn _ _ _ _ (room a) _ _ (t .loop .inv) _ _
+    passing-turn prime prime-lawful _ _ _ _ (room a) _ _ (t .loop .inv) _ _
     (acceptance _ (a .pre .0 .counts) (a .pre .0 .accepted) .well-formed)
     (omega (arith, a .pre .1 .0, c .before .before .before .before .before .before .loop-test .taken))
     _ _ (c .before .before .before .before .values .ensures) (c .before .before .put .ensures)
 
 same-length : tie.Need-same-length Inv-loop μ-loop
-same-length c = let t = c .before in passing-length _ _ _ _ (room (start t)) _ _ (t .loop .inv)
+same-length c = let t = c .before in passing-length prime prime-lawful _ _ _ _ (room (start t)) _ _ (t .loop .inv)
 
 returns : tie.Need-returns Inv-loop μ-loop
-returns c = let t = c .before in passing-done _ _ _ _ (room (start t)) _ _ (t .loop .inv) _ (start t .pre .1 .0) (omega arith)
+returns c = let t = c .before in passing-done prime prime-lawful _ _ _ _ (room (start t)) _ _ (t .loop .inv) _ (start t .pre .1 .0) (omega arith)
 
 pub over-spec : {M : Type 1} → statement M
 over-spec =

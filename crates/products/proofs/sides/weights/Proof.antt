@@ -1,6 +1,8 @@
 -- `products::sides::weights` meets its contract: a table of zeros is ready.
 use borrow.Author.Needs.{needs}
 use native.Mathlib.Omega.{arith}
+use Rattle.weights.specs.Words.{singles}
+use Rattle.weights.proofs.Singles.{singles-lawful}
 use Rattle.weights.proofs.Zeros.{zeros-ready}
 use Rattle.products.proofs.sides.weights.Statement.{statement}
 use Rattle.products.proofs.sides.weights.Tie as tie
@@ -18,7 +20,7 @@ slice-aggregate-by-table : tie.Need-slice-aggregate-by-table
 slice-aggregate-by-table c = search needs
 
 by-table-requires : tie.Need-by-table-requires
-by-table-requires c κs = (search needs, zeros-ready 64 (omega arith) (λ l. absurd (omega arith)))
+by-table-requires c κs = (search needs, zeros-ready singles singles-lawful 64 (omega arith) (λ l. absurd (omega arith)))
 
 returns : tie.Need-returns
 returns c = search needs
@@ -36,7 +38,7 @@ slice-aggregate-by-table-2 : tie.Need-slice-aggregate-by-table-2
 slice-aggregate-by-table-2 c = search needs
 
 by-table-requires-2 : tie.Need-by-table-requires-2
-by-table-requires-2 c κs = (search needs, zeros-ready 448 (omega arith) (λ l. omega arith))
+by-table-requires-2 c κs = (search needs, zeros-ready singles singles-lawful 448 (omega arith) (λ l. omega arith))
 
 returns-2 : tie.Need-returns-2
 returns-2 c = search needs

@@ -2,6 +2,7 @@
 use Prim.Native.Nat.{_-_, _≤_}
 use borrow.Author.Needs.{needs}
 use native.Mathlib.Omega.{arith}
+use Rattle.weights.specs.Words.{singles}
 use Rattle.weights.proofs.LimbWeights.{fewer}
 use Rattle.products.proofs.sides.windows.Statement.{statement}
 use Rattle.products.proofs.sides.windows.Tie as tie
@@ -20,7 +21,7 @@ loop-holds c = search needs
 
 factor-requires : tie.Need-factor-requires Inv-loop μ-loop
 factor-requires c κs =
-    (c .before .loop .inv, fewer _ _ _ (omega (arith, c .loop-test .taken)) (c .before .before .before .pre .short))
+    (c .before .loop .inv, fewer singles _ _ _ (omega (arith, c .loop-test .taken)) (c .before .before .before .pre .short))
 
 remainder-requires : tie.Need-remainder-requires Inv-loop μ-loop
 remainder-requires c κs = search needs

@@ -7,9 +7,11 @@ use lib.ListN.{length}
 use borrow.Author.Needs.{needs}
 use Rattle.field.specs.Fp.{p, fp}
 use Rattle.multilinear.specs.Eq.{bitwise}
+use Rattle.weights.specs.Words.{singles}
 use Rattle.weights.specs.Side.{pairs}
-use Rattle.weights.proofs.Factors.{factor-alone, part-numbers, fours-end, fours-whole, fours-weight}
-use Rattle.weights.proofs.Weighing.{weighs-read, weighs-onward}
+use Rattle.weights.proofs.Factors.{factor-alone, part-proper, fours-end, fours-whole, fours-weight}
+use Rattle.weights.proofs.Singles.{singles-lawful}
+use Rattle.weights.proofs.SmallWeights.{weighs-read, weighs-onward}
 use Rattle.weights.proofs.bits.bit_by_bit.Statement.{statement}
 use Rattle.weights.proofs.bits.bit_by_bit.Tie as tie
 
@@ -22,17 +24,17 @@ returns c =
 single-requires : tie.Need-single-requires
 single-requires c κs =
     let s = c .before .before in
-    (omega arith, omega (arith, c .if1 .left, s .pre .0, s .pre .1 .few, s .pre .1 .room), s .pre .1 .numbers)
+    (omega arith, omega (arith, c .if1 .left, s .pre .0, s .pre .1 .few, s .pre .1 .room), s .pre .1 .proper)
 
 -- the first factor is the weight over one bit
 first : (c : tie.After-value) →
     let s = c .before .before .before .before in
-    c .value .result ≡ bitwise fp (pairs (now (s .args .table))) 1 (s .args .from) (s .args .a)
+    c .value .result ≡ bitwise fp (pairs singles (now (s .args .table))) 1 (s .args .from) (s .args .a)
 first c =
     let s = c .before .before .before .before in
     c .value .ensures
     ∙ c .before .single .ensures .0
-    ∙ factor-alone (now (s .args .table)) (s .args .from) (s .args .a) (s .pre .1 .numbers)
+    ∙ factor-alone singles singles-lawful (now (s .args .table)) (s .pre .1 .proper) (s .args .from) (s .args .a)
 
 value-requires : tie.Need-value-requires
 value-requires c κs = search needs
@@ -99,7 +101,8 @@ in-fours-requires c κs =
     let at = s .args .to - (s .args .to - s .args .from - 1) % 4 in (
       omega (arith, c .before .before .value .ensures, c .before .before .before .single .ensures .1),
       fours-whole (now (s .args .table)) (s .args .from) at (ends (c .before) .0) (room (c .before)) (ends (c .before) .2),
-      part-numbers (now (s .args .table)) (2 * s .args .from + 2) (2 * at - (2 * s .args .from + 2)) (s .pre .1 .numbers),
+      part-proper singles singles-lawful (now (s .args .table)) (2 * s .args .from + 2) (2 * at - (2 * s .args .from + 2))
+          (s .pre .1 .proper),
     )
 
 sub-singly : tie.Need-sub-singly
@@ -128,7 +131,8 @@ returns-3 c =
     (first begun) .is) (
       c .before .in-fours .ensures .0
           ∙ ap (fp .mul (begun .value .result % p))
-          (fours-weight (now (s .args .table)) (s .args .from) at (ends (c .before .before .before) .0) (room (c .before .before .before)) (s .args .a / 2)),
+          (fours-weight singles (now (s .args .table)) (s .args .from) at (ends (c .before .before .before) .0)
+          (room (c .before .before .before)) (s .args .a / 2)),
       c .before .in-fours .ensures .1,
     ) in
     weighs-onward (now (s .args .table)) (s .args .a) (s .args .from) at (s .args .to) _ (c .before .in-fours .result % p)

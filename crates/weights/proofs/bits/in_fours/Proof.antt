@@ -6,23 +6,28 @@ use native.Mathlib.Omega.{arith}
 use denote.Ref.{now}
 use lib.ListN.{length, take, drop}
 use Rattle.field.specs.Fp.{p, fp}
+use Rattle.field.proofs.FpField.{fp-ring}
 use Rattle.multilinear.specs.Eq.{bitwise}
-use Rattle.weights.specs.Side.{pairs, Numbers, Small}
-use Rattle.weights.proofs.Factors.{four-fits, part-length, part-weight, part-numbers}
+use Rattle.weights.specs.Words.{singles}
+use Rattle.weights.specs.Side.{pairs, AllProper, Small}
+use Rattle.weights.proofs.Factors.{part-length, part-weight, part-proper}
+use Rattle.weights.proofs.Singles.{remainder-valid, singles-lawful}
+use Rattle.weights.proofs.SmallWeights.{four-fits}
 use Rattle.weights.proofs.Weighing.{Weighing, weighing-start, weighing-onward, weighing-left, weighing-done}
 use Rattle.weights.proofs.bits.in_fours.Statement.{statement}
 use Rattle.weights.proofs.bits.in_fours.Tie as tie
 
 abbrev Inv-loop : tie.InvT-loop
 Inv-loop begun a factors product₀ rest₀ left₀ product rest left =
-    Weighing (pairs left) (fp .mul (begun % p) (bitwise fp (pairs factors) (length factors / 2) 0 a)) (length left / 2) product rest 0
-    × (length left % 8 ≡ 0) × Numbers left × Small product
+    Weighing fp (pairs singles left) (fp .mul (begun % p) (bitwise fp (pairs singles factors) (length factors / 2) 0 a))
+    (length left / 2) (product % p) rest 0
+    × (length left % 8 ≡ 0) × AllProper singles left × Small product
 
 abbrev μ-loop : tie.MeasureT-loop
 μ-loop begun a factors product₀ rest₀ left₀ product rest left = length left
 
 loop-holds : tie.Need-loop-holds Inv-loop μ-loop
-loop-holds c = let s = c .before in (weighing-start _ _ _ _, s .pre .1, s .pre .2, s .pre .0)
+loop-holds c = let s = c .before in (weighing-start _ _ _ _ _, s .pre .1, s .pre .2, s .pre .0)
 
 -- the factors that a turn leaves
 abbrev after : List ℕ → List ℕ
@@ -74,22 +79,22 @@ loop-again c =
     let size : length (after left) ≡ length left - 8 = after-length left (inside turn) in
     let bits : length (after left) / 2 ≡ length left / 2 - 4 = omega (arith, size) in
     let all : length left - 8 ≡ 2 * (length (after left) / 2) = omega (arith, size, inside turn, t .loop .inv .1) in (
-      weighing-left (pairs left) _ _ (length left / 2) (c .before .product .result) (t .loop .rest / 16) 4
+      weighing-left fp (pairs singles left) _ _ (length left / 2) (c .before .product .result % p) (t .loop .rest / 16) 4
           (length (after left) / 2) bits
-          (part-weight left 8 (length left - 8) 4 (length (after left) / 2) (t .loop .rest / 16) refl all)
-          (weighing-onward (pairs left) _ (length left / 2) (t .loop .product) (t .loop .rest) 0 4 _ (four .result % p)
-          (omega (arith, inside turn, t .loop .inv .1)) (four .ensures .0)
+          (part-weight singles left 8 (length left - 8) 4 (length (after left) / 2) (t .loop .rest / 16) refl all)
+          (weighing-onward fp fp-ring (pairs singles left) _ (length left / 2) (t .loop .product % p) (t .loop .rest) 0 4 _
+          (four .result % p) (omega (arith, inside turn, t .loop .inv .1)) (four .ensures .0)
           (c .before .product .ensures .0 ∙ ap (λ (x : ℕ). fp .mul x (four .result % p)) (folded .ensures .0)) (t .loop .inv .0)),
       omega (arith, size, inside turn, t .loop .inv .1),
-      part-numbers left 8 (length left - 8) (t .loop .inv .2),
+      part-proper singles singles-lawful left 8 (length left - 8) (t .loop .inv .2),
       omega (arith, c .before .product .ensures .1, fits (c .before .before)),
     )
 
 returns : tie.Need-returns Inv-loop μ-loop
 returns c =
     let t = c .before in (
-      weighing-done (pairs (now (t .loop .left))) _ (length (now (t .loop .left)) / 2) _ _ 0 (omega (arith, c .loop-test .left))
-          (t .loop .inv .0),
+      weighing-done fp fp-ring (pairs singles (now (t .loop .left))) _ (length (now (t .loop .left)) / 2) _ _ 0
+          (remainder-valid (t .loop .product)) (omega (arith, c .loop-test .left)) (t .loop .inv .0),
       t .loop .inv .3,
     )
 

@@ -6,9 +6,10 @@ use denote.Ref.{now}
 use borrow.Author.Needs.{needs}
 use Rattle.field.specs.Fp.{fp}
 use Rattle.multilinear.specs.Eq.{bitwise}
+use Rattle.weights.specs.Words.{singles}
 use Rattle.weights.specs.Side.{pairs}
 use Rattle.weights.proofs.LimbWeights.{fewer}
-use Rattle.weights.proofs.Weighing.{weighs-read, weighs-onward}
+use Rattle.weights.proofs.SmallWeights.{weighs-read, weighs-onward}
 use Rattle.weights.proofs.limbs.in_limbs.Statement.{statement}
 use Rattle.weights.proofs.limbs.in_limbs.Tie as tie
 
@@ -38,7 +39,7 @@ sub-bits c = search needs
 limb-weight-requires : tie.Need-limb-weight-requires
 limb-weight-requires c κs =
     let s = c .before .before in
-    (omega arith, s .pre .1, fewer (s .args .to) _ (now (s .args .table)) (first-ends c) (s .pre .2))
+    (omega arith, s .pre .1, fewer singles (s .args .to) _ (now (s .args .table)) (first-ends c) (s .pre .2))
 
 cast-whole-limbs : tie.Need-cast-whole-limbs
 cast-whole-limbs c = search needs
@@ -56,7 +57,7 @@ whole-limbs-requires c κs =
       omega arith,
       omega (arith, c .before .if1 .left),
       s .pre .1,
-      fewer (s .args .to) _ (now (s .args .table)) (omega arith) (s .pre .2),
+      fewer singles (s .args .to) _ (now (s .args .table)) (omega arith) (s .pre .2),
     )
 
 mul-t11 : tie.Need-mul-t11
@@ -74,7 +75,7 @@ returns-2 c =
       weighs-onward (now (s .args .table)) (s .args .a) (s .args .from) (5 * (s .args .from / 5 + 1)) (5 * (s .args .to / 5)) _
           (begun .limb-weight .result .0) (c .whole-limbs .result) (omega arith) (omega (arith, first))
           (ap (λ (n : ℕ). s .args .a / 2 ^ n) bits)
-          (begun .limb-weight .ensures .0 ∙ ap₂ (λ (n i : ℕ). bitwise fp (pairs (now (s .args .table))) n i (s .args .a)) bits here)
+          (begun .limb-weight .ensures .0 ∙ ap₂ (λ (n i : ℕ). bitwise fp (pairs singles (now (s .args .table))) n i (s .args .a)) bits here)
           (c .whole-limbs .ensures .0, omega (arith, c .whole-limbs .ensures .1)),
     )
 

@@ -4,7 +4,7 @@ use mathlib.Core.Path.{refl}
 use denote.Ref.{now}
 use borrow.Author.Needs.{needs}
 use Rattle.field.specs.Fp.{p}
-use Rattle.weights.proofs.Weighing.{weighs-onward}
+use Rattle.weights.proofs.SmallWeights.{weighs-onward}
 use Rattle.weights.proofs.limbs.limb_by_limb.Statement.{statement}
 use Rattle.weights.proofs.limbs.limb_by_limb.Tie as tie
 

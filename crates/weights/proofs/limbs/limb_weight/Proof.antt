@@ -5,13 +5,16 @@ use native.Mathlib.Omega.{arith}
 use denote.Ref.{now}
 use borrow.Author.Needs.{needs}
 use lib.ListN.{length}
+use Rattle.weights.specs.Words.{singles}
 use Rattle.weights.proofs.LimbWeights.{size, size-some, offset-small, limb-inside, limb-holds}
+use Rattle.weights.proofs.Singles.{singles-lawful}
 use Rattle.weights.proofs.limbs.limb_weight.Statement.{statement}
 use Rattle.weights.proofs.limbs.limb_weight.Tie as tie
 
 inside : (s : tie.Start) →
     64 * s .args .limb + 64 + (size (s .args .bits) + s .args .a % size (s .args .bits)) < length (now (s .args .table))
-inside s = limb-inside (now (s .args .table)) (s .args .a) (s .args .limb) (s .args .bits) (s .pre .0) (s .pre .1) (s .pre .2)
+inside s =
+    limb-inside singles singles-lawful (now (s .args .table)) (s .args .a) (s .args .limb) (s .args .bits) (s .pre .0) (s .pre .1) (s .pre .2)
 
 cast-size : tie.Need-cast-size
 cast-size c = search needs
@@ -44,14 +47,15 @@ shared-slice-read-new : tie.Need-shared-slice-read-new
 shared-slice-read-new c = inside (c .before .before)
 
 new-requires : tie.Need-new-requires
-new-requires c κs = c .before .before .pre .2 .numbers _
+new-requires c κs = c .before .before .pre .2 .proper _
 
 returns : tie.Need-returns
 returns c =
     let s = c .before .before .before in (
       c .new .ensures
-          ∙ limb-holds (now (s .args .table)) (s .args .a) (s .args .limb) (s .args .bits) (s .pre .0) (s .pre .1) (s .pre .2),
-      rw (c .new .ensures) (s .pre .2 .numbers _),
+          ∙ limb-holds singles singles-lawful (now (s .args .table)) (s .args .a) (s .args .limb) (s .args .bits) (s .pre .0) (s .pre .1)
+          (s .pre .2),
+      rw (c .new .ensures) (s .pre .2 .proper _),
     )
 
 pub limb-weight-spec : {M : Type 1} → statement M

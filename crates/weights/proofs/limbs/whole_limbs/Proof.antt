@@ -1,20 +1,25 @@
 -- `weights::limbs::whole_limbs` meets its contract: one limb a turn.
 use Prim.Native.Nat.{ℕ, _+_, _-_, _*_, _%_, _≤_, _<_}
 use mathlib.Core.Path.{_≡_, ap, _∙_}
+use native.Mathlib.Nat.{mod-eq-of-lt}
 use native.Mathlib.Omega.{arith}
 use denote.Ref.{now}
 use Rattle.field.specs.Fp.{p, fp}
+use Rattle.field.proofs.FpField.{fp-ring}
 use Rattle.multilinear.specs.Eq.{bitwise}
+use Rattle.weights.specs.Words.{singles}
 use Rattle.weights.specs.Side.{pairs}
 use Rattle.weights.proofs.LimbWeights.{fewer}
-use Rattle.weights.proofs.Weighing.{Weighing, weighing-begun, weighing-onward, weighing-done, small-onward}
+use Rattle.weights.proofs.Singles.{remainder-valid}
+use Rattle.weights.proofs.SmallWeights.{small-onward}
+use Rattle.weights.proofs.Weighing.{Weighing, weighing-begun, weighing-onward, weighing-done}
 use Rattle.weights.proofs.limbs.whole_limbs.Statement.{statement}
 use Rattle.weights.proofs.limbs.whole_limbs.Tie as tie
 
 abbrev Inv-loop : tie.InvT-loop
 Inv-loop a table from to product₀ rest₀ turn₀ product rest turn =
-    Weighing (pairs table) (fp .mul product₀ (bitwise fp (pairs table) (5 * to - 5 * from) (5 * from) a)) (5 * to) product rest
-    (5 * (from + turn))
+    Weighing fp (pairs singles table) (fp .mul product₀ (bitwise fp (pairs singles table) (5 * to - 5 * from) (5 * from) a)) (5 * to)
+    (product % p) rest (5 * (from + turn))
     × (turn ≤ 5) × (product ≤ 2147483647 * (turn % 3 + 1) + 4)
 
 abbrev μ-loop : tie.MeasureT-loop
@@ -26,15 +31,15 @@ done : (t : tie.At-loop Inv-loop μ-loop) →
     s .args .to ≤ s .args .from + t .loop .turn →
     (t .loop .product % p
     ≡ fp .mul (s .args .begun .0)
-    (bitwise fp (pairs (now (s .args .table))) (5 * s .args .to - 5 * s .args .from) (5 * s .args .from) (s .args .a)))
+    (bitwise fp (pairs singles (now (s .args .table))) (5 * s .args .to - 5 * s .args .from) (5 * s .args .from) (s .args .a)))
     × (t .loop .product < 8589934592)
 done t l =
     let s = t .before .before .before in (
-      weighing-done (pairs (now (s .args .table))) _ (5 * s .args .to) _ _ (5 * (s .args .from + t .loop .turn)) (omega arith)
-          (t .loop .inv .0)
+      weighing-done fp fp-ring (pairs singles (now (s .args .table))) _ (5 * s .args .to) _ _ (5 * (s .args .from + t .loop .turn))
+          (remainder-valid (t .loop .product)) (omega arith) (t .loop .inv .0)
           ∙ ap
           (λ (x : ℕ). fp .mul x
-          (bitwise fp (pairs (now (s .args .table))) (5 * s .args .to - 5 * s .args .from) (5 * s .args .from) (s .args .a)))
+          (bitwise fp (pairs singles (now (s .args .table))) (5 * s .args .to - 5 * s .args .from) (5 * s .args .from) (s .args .a)))
           (t .before .value .ensures),
       omega (arith, t .loop .inv .2),
     )
@@ -57,8 +62,8 @@ loop-holds : tie.Need-loop-holds Inv-loop μ-loop
 loop-holds c =
     let s = c .before .before in
     let below : c .value .result < p = omega (arith, c .value .ensures, s .pre .0) in (
-      weighing-begun (pairs (now (s .args .table))) (5 * s .args .to) (c .value .result) (s .args .a) (5 * s .args .from) _ below
-          (omega arith) (omega (arith, s .pre .2)),
+      weighing-begun fp (pairs singles (now (s .args .table))) (5 * s .args .to) (c .value .result) _ (s .args .a) (5 * s .args .from) _
+          (mod-eq-of-lt below) (omega arith) (omega (arith, s .pre .2)),
       omega arith,
       omega arith,
     )
@@ -79,7 +84,7 @@ limb-weight-requires c κs =
     let s = c .before .before .before .before .before in (
       omega arith,
       s .pre .3,
-      fewer (5 * s .args .to) _ (now (s .args .table)) (inside c) (s .pre .4),
+      fewer singles (5 * s .args .to) _ (now (s .args .table)) (inside c) (s .pre .4),
     )
 
 times-requires : tie.Need-times-requires Inv-loop μ-loop
@@ -103,9 +108,9 @@ loop-again c =
     let here : 5 * (s .args .from + t .loop .turn) + 0 ≡ 5 * (s .args .from + t .loop .turn) = omega arith in
     let next : 5 * (s .args .from + (t .loop .turn + 1)) ≡ 5 * (s .args .from + t .loop .turn) + 5 = omega arith in (
       rw next
-          (weighing-onward (pairs (now (s .args .table))) _ (5 * s .args .to) (t .loop .product) (t .loop .rest)
+          (weighing-onward fp fp-ring (pairs singles (now (s .args .table))) _ (5 * s .args .to) (t .loop .product % p) (t .loop .rest)
           (5 * (s .args .from + t .loop .turn)) 5 _ (limb .result .0) (inside turn)
-          (limb .ensures .0 ∙ ap (λ (i : ℕ). bitwise fp (pairs (now (s .args .table))) 5 i (t .loop .rest)) here)
+          (limb .ensures .0 ∙ ap (λ (i : ℕ). bitwise fp (pairs singles (now (s .args .table))) 5 i (t .loop .rest)) here)
           (c .settled .ensures .0 ∙ c .before .times .ensures .0) (t .loop .inv .0)),
       omega (arith, turn .before .loop-test .taken),
       small-onward (t .loop .turn) (t .loop .product) (c .before .times .result) (c .settled .result)

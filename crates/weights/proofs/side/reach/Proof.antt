@@ -4,13 +4,15 @@ use mathlib.Core.Path.{_≡_}
 use native.Mathlib.Omega.{arith}
 use denote.Ref.{now}
 use borrow.Author.Needs.{needs}
+use Rattle.weights.specs.Words.{singles}
 use Rattle.weights.specs.Side.{filled}
 use Rattle.weights.proofs.Reach.{reaches-so-far, reaches-end}
+use Rattle.weights.proofs.Singles.{singles-lawful}
 use Rattle.weights.proofs.side.reach.Statement.{statement}
 use Rattle.weights.proofs.side.reach.Tie as tie
 
 returns : tie.Need-returns
-returns c = let s = c .before in reaches-so-far (s .args .most) _ (now (s .args .table)) (s .pre .0) (s .pre .1)
+returns c = let s = c .before in reaches-so-far singles (s .args .most) _ (now (s .args .table)) (s .pre .0) (s .pre .1)
 
 add-result : tie.Need-add-result
 add-result c = search needs
@@ -22,10 +24,10 @@ returns-2 : tie.Need-returns-2
 returns-2 c =
     let s = c .before .before in
     let end : (s .args .bits + 4) / 5 * 5 ≡ filled (s .args .bits) = omega arith in
-    rw end (reaches-end (s .args .most) _ (now (s .args .table)) (c .if2 .taken) (c .before .if1 .left) (s .pre .1))
+    rw end (reaches-end singles singles-lawful (s .args .most) _ (now (s .args .table)) (c .if2 .taken) (c .before .if1 .left) (s .pre .1))
 
 returns-3 : tie.Need-returns-3
-returns-3 c = let s = c .before .before in reaches-so-far (s .args .most) _ (now (s .args .table)) (s .pre .0) (s .pre .1)
+returns-3 c = let s = c .before .before in reaches-so-far singles (s .args .most) _ (now (s .args .table)) (s .pre .0) (s .pre .1)
 
 pub reach-spec : {M : Type 1} → statement M
 reach-spec = tie.close (tie.spec returns add-result mul-result returns-2 returns-3)

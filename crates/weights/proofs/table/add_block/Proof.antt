@@ -1,6 +1,8 @@
 -- `weights::table::add_block` meets its contract: the weight over no bits is 1, and the others are made from it.
+use native.Mathlib.Omega.{arith}
 use denote.Ref.{now}
 use borrow.Author.Needs.{needs}
+use Rattle.weights.specs.Words.{singles}
 use Rattle.weights.proofs.Growing.{block-begun, block-made}
 use Rattle.weights.proofs.table.add_block.Statement.{statement}
 use Rattle.weights.proofs.table.add_block.Tie as tie
@@ -24,8 +26,8 @@ grow-requires : tie.Need-grow-requires
 grow-requires c κs =
     let put = c .before .before .before in
     let a = put .before .before .before .before in
-    block-begun (now (a .args .table)) _ (a .args .block) _ (a .pre .0) (a .pre .1) (put .before .one .ensures) (put .put .ensures)
-    (a .pre .2) (a .pre .3)
+    block-begun singles (now (a .args .table)) _ (a .args .block) _ (a .pre .0) (a .pre .1) (put .put .ensures)
+    (rw (put .before .one .ensures) (omega arith)) (put .before .one .ensures) (a .pre .2) (a .pre .3)
 
 same-length : tie.Need-same-length
 same-length c = search needs
@@ -35,8 +37,7 @@ returns c =
     let made = c .before .before in
     let put = made .before .before .before .before in
     let a = put .before .before .before .before in
-    block-made (now (a .args .table)) _ (a .args .block) _ (a .pre .0) (a .pre .1) (put .before .one .ensures) (put .put .ensures) _
-    (made .grow .ensures)
+    block-made singles (now (a .args .table)) _ (a .args .block) _ (a .pre .0) (a .pre .1) (put .put .ensures) _ (made .grow .ensures)
 
 pub add-block-spec : {M : Type 1} → statement M
 add-block-spec =

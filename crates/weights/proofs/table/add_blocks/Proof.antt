@@ -3,13 +3,14 @@ use Prim.Native.Nat.{ℕ, _-_, _≤_}
 use mathlib.Core.Path.{_≡_, subst}
 use native.Mathlib.Omega.{arith}
 use denote.Ref.{now}
+use Rattle.weights.specs.Words.{singles}
 use Rattle.weights.specs.Side.{BlocksMade}
 use Rattle.weights.proofs.Blocks.{blocks-begun, blocks-inside, blocks-turn}
 use Rattle.weights.proofs.table.add_blocks.Statement.{statement}
 use Rattle.weights.proofs.table.add_blocks.Tie as tie
 
 abbrev Inv-loop : tie.InvT-loop
-Inv-loop table₀ blocks block₀ table block = BlocksMade table₀ block table × (block ≤ blocks)
+Inv-loop table₀ blocks block₀ table block = BlocksMade singles table₀ block table × (block ≤ blocks)
 
 abbrev μ-loop : tie.MeasureT-loop
 μ-loop table₀ blocks block₀ table block = blocks - block
@@ -18,14 +19,14 @@ abbrev start : tie.At-loop Inv-loop μ-loop → tie.Start Inv-loop μ-loop
 start t = t .before .before
 
 loop-holds : tie.Need-loop-holds Inv-loop μ-loop
-loop-holds c = (blocks-begun _ (c .before .pre .2), omega arith)
+loop-holds c = (blocks-begun singles _ (c .before .pre .2), omega arith)
 
 add-block-requires : tie.Need-add-block-requires Inv-loop μ-loop
 add-block-requires c κs =
     let test = c .before in
     let t = test .before in
     let a = start t in
-    blocks-inside _ _ _ _ (a .pre .0) (a .pre .1) (a .pre .3) (t .loop .inv .0) (test .loop-test .taken)
+    blocks-inside singles _ _ _ _ (a .pre .0) (a .pre .1) (a .pre .3) (t .loop .inv .0) (test .loop-test .taken)
 
 add-block : tie.Need-add-block Inv-loop μ-loop
 add-block c = omega arith
@@ -38,8 +39,10 @@ loop-again c =
     let made = c .before .before in
     let test = made .before .before in
     let t = test .before in
-    let l = test .loop-test .taken in
-    (blocks-turn _ _ _ (t .loop .block) (omega (arith, start t .pre .0, l)) (t .loop .inv .0) (made .add-block .ensures), omega (arith, l))
+    let l = test .loop-test .taken in (
+      blocks-turn singles _ _ _ (t .loop .block) (omega (arith, start t .pre .0, l)) (t .loop .inv .0) (made .add-block .ensures),
+      omega (arith, l),
+    )
 
 same-length : tie.Need-same-length Inv-loop μ-loop
 same-length c = c .before .loop .inv .0 .same-length
@@ -49,7 +52,7 @@ returns c =
     let t = c .before in
     let a = start t in
     let all : t .loop .block ≡ a .args .blocks = omega (arith, t .loop .inv .1, c .loop-test .left) in
-    subst (λ (n : ℕ). BlocksMade (now (a .args .table)) n (t .loop .table)) all (t .loop .inv .0)
+    subst (λ (n : ℕ). BlocksMade singles (now (a .args .table)) n (t .loop .table)) all (t .loop .inv .0)
 
 pub add-blocks-spec : {M : Type 1} → statement M
 add-blocks-spec =

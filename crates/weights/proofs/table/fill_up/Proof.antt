@@ -4,13 +4,14 @@ use mathlib.Core.Path.{_≡_, subst}
 use native.Mathlib.Omega.{arith}
 use denote.Ref.{now}
 use lib.ListN.{length}
+use Rattle.weights.specs.Words.{singles}
 use Rattle.weights.specs.Side.{FilledUp}
 use Rattle.weights.proofs.Pairs.{filling-begun, filling-turn}
 use Rattle.weights.proofs.table.fill_up.Statement.{statement}
 use Rattle.weights.proofs.table.fill_up.Tie as tie
 
 abbrev Inv-loop : tie.InvT-loop
-Inv-loop table₀ from to i₀ table i = FilledUp table₀ from i table × (from ≤ i) × (i ≤ to)
+Inv-loop table₀ from to i₀ table i = FilledUp singles table₀ from i table × (from ≤ i) × (i ≤ to)
 
 abbrev μ-loop : tie.MeasureT-loop
 μ-loop table₀ from to i₀ table i = to - i
@@ -23,7 +24,7 @@ inside : (t : tie.At-loop Inv-loop μ-loop) → t .loop .i < start t .args .to �
 inside t l = let a = start t in omega (arith, a .pre .1, a .pre .2, t .loop .inv .0 .same-length)
 
 loop-holds : tie.Need-loop-holds Inv-loop μ-loop
-loop-holds c = let a = c .before in (filling-begun _ _ (a .pre .3), omega arith, a .pre .0)
+loop-holds c = let a = c .before in (filling-begun singles _ _ (a .pre .3), omega arith, a .pre .0)
 
 mul-put-both : tie.Need-mul-put-both Inv-loop μ-loop
 mul-put-both c = omega (arith, start (c .before .before) .pre .1)
@@ -51,7 +52,8 @@ loop-again c =
     let test = one .before .before in
     let t = test .before in
     let l = test .loop-test .taken in (
-      filling-turn _ _ _ _ (t .loop .i) _ _ (t .loop .inv .1) (inside t l) (t .loop .inv .0) (one .one .ensures) (none .zero .ensures)
+      filling-turn singles _ _ _ _ (t .loop .i) _ _ (t .loop .inv .1) (inside t l) (t .loop .inv .0)
+          (rw (one .one .ensures) (omega arith)) (rw (none .zero .ensures) (omega arith)) (one .one .ensures) (none .zero .ensures)
           (stored .put-both .ensures),
       omega (arith, t .loop .inv .1),
       omega (arith, l),
@@ -65,7 +67,7 @@ returns c =
     let t = c .before in
     let a = start t in
     let all : t .loop .i ≡ a .args .to = omega (arith, t .loop .inv .2, c .loop-test .left) in
-    subst (λ (n : ℕ). FilledUp (now (a .args .table)) (a .args .from) n (t .loop .table)) all (t .loop .inv .0)
+    subst (λ (n : ℕ). FilledUp singles (now (a .args .table)) (a .args .from) n (t .loop .table)) all (t .loop .inv .0)
 
 pub fill-up-spec : {M : Type 1} → statement M
 fill-up-spec =

@@ -5,6 +5,7 @@ use native.Mathlib.Omega.{arith}
 use denote.Ref.{now}
 use lib.ListN.{length}
 use lib.Pow.{pow-mono}
+use Rattle.weights.specs.Words.{singles}
 use Rattle.weights.specs.Side.{BlockGrown}
 use Rattle.weights.proofs.Growing.{growing-begun, growing-turn}
 use Rattle.weights.proofs.Sizes.{size-is}
@@ -12,7 +13,7 @@ use Rattle.weights.proofs.table.grow.Statement.{statement}
 use Rattle.weights.proofs.table.grow.Tie as tie
 
 abbrev Inv-loop : tie.InvT-loop
-Inv-loop table₀ block level₀ table level = BlockGrown table₀ block level table × (level ≤ 5)
+Inv-loop table₀ block level₀ table level = BlockGrown singles table₀ block level table × (level ≤ 5)
 
 abbrev μ-loop : tie.MeasureT-loop
 μ-loop table₀ block level₀ table level = 5 - level
@@ -25,7 +26,7 @@ room : (t : tie.At-loop Inv-loop μ-loop) → (start t .args .block < 6) × (448
 room t = let a = start t in (a .pre .0 .0, omega (arith, a .pre .0 .1, t .loop .inv .0 .same-length))
 
 loop-holds : tie.Need-loop-holds Inv-loop μ-loop
-loop-holds c = let a = c .before in (growing-begun _ _ (a .pre .0 .2) (a .pre .1), omega arith)
+loop-holds c = let a = c .before in (growing-begun singles _ _ (a .pre .0 .2) (a .pre .1), omega arith)
 
 mul-bit : tie.Need-mul-bit Inv-loop μ-loop
 mul-bit c = omega (arith, room (c .before))
@@ -49,7 +50,7 @@ slice-read-new : tie.Need-slice-read-new Inv-loop μ-loop
 slice-read-new c = omega (arith, room (c .before .before))
 
 new-requires : tie.Need-new-requires Inv-loop μ-loop
-new-requires c κs = let t = c .before .before in t .loop .inv .0 .numbers _
+new-requires c κs = let t = c .before .before in t .loop .inv .0 .proper _
 
 mul-widen : tie.Need-mul-widen Inv-loop μ-loop
 mul-widen c = omega (arith, room (c .before .before .before .before))
@@ -67,8 +68,8 @@ widen-requires c κs =
     let level = t .loop .level in
     let l : level ≤ 4 = omega (arith, test .loop-test .taken) in (
       omega (arith, size-is 64 level (omega arith), pow-mono {i = level} {j = 4} l, room t),
-      rw (c .before .new .ensures) (t .loop .inv .0 .numbers _),
-      t .loop .inv .0 .numbers,
+      rw (c .before .new .ensures) (t .loop .inv .0 .proper _),
+      t .loop .inv .0 .proper,
     )
 
 add-level : tie.Need-add-level Inv-loop μ-loop
@@ -84,7 +85,7 @@ loop-again c =
     let test = read .before .before in
     let t = test .before in
     let l = test .loop-test .taken in (
-      growing-turn _ _ _ _ (t .loop .level) _ _ _ l refl (size-is 64 _ (omega arith)) (start t .pre .0 .3) (t .loop .inv .0)
+      growing-turn singles _ _ _ _ (t .loop .level) _ _ _ l refl (size-is 64 _ (omega arith)) (start t .pre .0 .3) (t .loop .inv .0)
           (read .new .ensures) (made .widen .ensures),
       omega (arith, l),
     )
@@ -97,7 +98,7 @@ returns c =
     let t = c .before in
     let a = start t in
     let all : t .loop .level ≡ 5 = omega (arith, t .loop .inv .1, c .loop-test .left) in
-    subst (λ (n : ℕ). BlockGrown (now (a .args .table)) (a .args .block) n (t .loop .table)) all (t .loop .inv .0)
+    subst (λ (n : ℕ). BlockGrown singles (now (a .args .table)) (a .args .block) n (t .loop .table)) all (t .loop .inv .0)
 
 pub grow-spec : {M : Type 1} → statement M
 grow-spec =

@@ -5,14 +5,15 @@ use native.Mathlib.Omega.{arith}
 use denote.Ref.{now}
 use lib.ListN.{length, getD}
 use Rattle.field.specs.Fp.{p}
+use Rattle.weights.specs.Words.{singles}
 use Rattle.weights.specs.Side.{Paired}
-use Rattle.weights.proofs.Elements.{below-at}
 use Rattle.weights.proofs.Pairs.{pairing-begun, pairing-turn}
+use Rattle.weights.proofs.Singles.{below-at, sub-below, singles-lawful}
 use Rattle.weights.proofs.table.pair_up.Statement.{statement}
 use Rattle.weights.proofs.table.pair_up.Tie as tie
 
 abbrev Inv-loop : tie.InvT-loop
-Inv-loop coordinates table₀ count i₀ table i = Paired coordinates table₀ i table × (i ≤ length coordinates)
+Inv-loop coordinates table₀ count i₀ table i = Paired singles coordinates table₀ i table × (i ≤ length coordinates)
 
 abbrev μ-loop : tie.MeasureT-loop
 μ-loop coordinates table₀ count i₀ table i = count - i
@@ -30,7 +31,7 @@ inside : (t : tie.At-loop Inv-loop μ-loop) → t .loop .i < length (now (start 
 inside t l = let a = start t in omega (arith, a .pre .0 .0, a .pre .1 .room, t .loop .inv .0 .same-length)
 
 loop-holds : tie.Need-loop-holds Inv-loop μ-loop
-loop-holds c = (pairing-begun _ _ (c .before .before .pre .1 .numbers), omega arith)
+loop-holds c = (pairing-begun singles singles-lawful _ _ (c .before .before .pre .1 .proper), omega arith)
 
 mul-new : tie.Need-mul-new Inv-loop μ-loop
 mul-new c = omega (arith, start (c .before) .pre .0 .0, c .loop-test .taken)
@@ -72,8 +73,9 @@ loop-again c =
     let test = read .before .before in
     let t = test .before in
     let l = test .loop-test .taken in (
-      pairing-turn _ _ _ _ (t .loop .i) _ _ _ (inside t l) (t .loop .inv .0) (made .before .one .ensures)
-          (rw (read .new .ensures) (coordinate t l)) (read .new .ensures) (made .sub .ensures) (stored .put-both .ensures),
+      pairing-turn singles singles-lawful _ _ _ _ (t .loop .i) _ _ _ (inside t l) (t .loop .inv .0) (made .before .one .ensures)
+          (rw (made .sub .ensures) (sub-below _ _)) (rw (read .new .ensures) (coordinate t l)) (read .new .ensures)
+          (made .sub .ensures) (stored .put-both .ensures),
       omega (arith, l),
     )
 
@@ -85,7 +87,7 @@ returns c =
     let t = c .before in
     let a = start t in
     let all : t .loop .i ≡ length (now (a .args .coordinates)) = omega (arith, t .loop .inv .1, c .loop-test .left) in
-    subst (λ (n : ℕ). Paired (now (a .args .coordinates)) (now (a .args .table)) n (t .loop .table)) all (t .loop .inv .0)
+    subst (λ (n : ℕ). Paired singles (now (a .args .coordinates)) (now (a .args .table)) n (t .loop .table)) all (t .loop .inv .0)
 
 pub pair-up-spec : {M : Type 1} → statement M
 pair-up-spec =

@@ -2,6 +2,8 @@
 use mathlib.Core.Path.{refl}
 use denote.Ref.{now}
 use borrow.Author.Needs.{needs}
+use Rattle.weights.specs.Words.{singles}
+use Rattle.weights.proofs.Singles.{valid-at, singles-lawful}
 use Rattle.weights.proofs.Tables.{tabled-short, blocks-fit, tabled-long}
 use Rattle.weights.proofs.table.prepare.Statement.{statement}
 use Rattle.weights.proofs.table.prepare.Tie as tie
@@ -28,8 +30,8 @@ add-blocks-requires c κs =
     let test = filled .before .before in
     let paired = test .before .before .before in
     let a = start paired in
-    blocks-fit (now (a .args .coordinates)) (now (a .args .table)) _ (a .pre .0 .0) (a .pre .1) (paired .pair-up .ensures)
-    (test .if1 .taken) _ refl _ (filled .fill-up .ensures) (a .pre .0 .1)
+    blocks-fit singles singles-lawful (now (a .args .coordinates)) (now (a .args .table)) _ (a .pre .0 .0) (a .pre .1)
+    (paired .pair-up .ensures) (test .if1 .taken) _ refl _ (filled .fill-up .ensures) (valid-at (now (a .args .coordinates)) (a .pre .0 .1))
 
 same-length : tie.Need-same-length
 same-length c = search needs
@@ -41,8 +43,8 @@ returns c =
     let test = filled .before .before in
     let paired = test .before .before .before in
     let a = start paired in
-    tabled-long (now (a .args .coordinates)) (now (a .args .table)) _ (a .pre .0 .0) (a .pre .1) (paired .pair-up .ensures)
-    (test .if1 .taken) _ refl _ (filled .fill-up .ensures) _ (made .add-blocks .ensures)
+    tabled-long singles singles-lawful (now (a .args .coordinates)) (now (a .args .table)) _ (a .pre .0 .0) (a .pre .1)
+    (paired .pair-up .ensures) (test .if1 .taken) _ refl _ (filled .fill-up .ensures) _ (made .add-blocks .ensures)
 
 same-length-2 : tie.Need-same-length-2
 same-length-2 c = search needs
@@ -51,8 +53,8 @@ returns-2 : tie.Need-returns-2
 returns-2 c =
     let paired = c .before .before .before in
     let a = start paired in
-    tabled-short (now (a .args .coordinates)) (now (a .args .table)) _ (a .pre .0 .0) (a .pre .1) (paired .pair-up .ensures)
-    (c .if1 .left)
+    tabled-short singles singles-lawful (now (a .args .coordinates)) (now (a .args .table)) _ (a .pre .0 .0) (a .pre .1)
+    (paired .pair-up .ensures) (c .if1 .left)
 
 pub prepare-spec : {M : Type 1} → statement M
 prepare-spec =

@@ -4,14 +4,15 @@ use mathlib.Core.Path.{_≡_, subst}
 use native.Mathlib.Omega.{arith}
 use denote.Ref.{now}
 use lib.ListN.{length}
+use Rattle.weights.specs.Words.{singles}
 use Rattle.weights.specs.Side.{Widened}
-use Rattle.weights.proofs.Elements.{mul-below}
+use Rattle.weights.proofs.Singles.{mul-below, sub-below, valid-below, singles-lawful}
 use Rattle.weights.proofs.Widening.{widening-begun, widening-turn}
 use Rattle.weights.proofs.table.widen.Statement.{statement}
 use Rattle.weights.proofs.table.widen.Tie as tie
 
 abbrev Inv-loop : tie.InvT-loop
-Inv-loop table₀ base half odd j₀ j-end table j = Widened table₀ base half (odd .0) j table × (half ≤ j) × (j ≤ 2 * half)
+Inv-loop table₀ base half odd j₀ j-end table j = Widened singles table₀ base half (odd .0) j table × (half ≤ j) × (j ≤ 2 * half)
 
 abbrev μ-loop : tie.MeasureT-loop
 μ-loop table₀ base half odd j₀ j-end table j = 2 * half - j
@@ -28,7 +29,7 @@ mul-j-end : tie.Need-mul-j-end Inv-loop μ-loop
 mul-j-end c = omega (arith, c .before .pre .0)
 
 loop-holds : tie.Need-loop-holds Inv-loop μ-loop
-loop-holds c = (widening-begun _ _ _ _ (c .before .pre .2), omega arith, omega arith)
+loop-holds c = (widening-begun singles singles-lawful _ _ _ _ (c .before .pre .2), omega arith, omega arith)
 
 add-new : tie.Need-add-new Inv-loop μ-loop
 add-new c = omega (arith, inside (c .before) (c .loop-test .taken))
@@ -40,12 +41,12 @@ slice-read-new : tie.Need-slice-read-new Inv-loop μ-loop
 slice-read-new c = omega (arith, inside (c .before .before) (c .before .loop-test .taken))
 
 new-requires : tie.Need-new-requires Inv-loop μ-loop
-new-requires c κs = let t = c .before .before in t .loop .inv .0 .numbers _
+new-requires c κs = let t = c .before .before in t .loop .inv .0 .proper _
 
 mul-requires : tie.Need-mul-requires Inv-loop μ-loop
 mul-requires c κs =
     let t = c .before .before .before in
-    (rw (c .new .ensures) (t .loop .inv .0 .numbers _), start t .pre .1)
+    (rw (c .new .ensures) (t .loop .inv .0 .proper _), start t .pre .1)
 
 mul-put-both : tie.Need-mul-put-both Inv-loop μ-loop
 mul-put-both c = let test = c .before .before .before .before in omega (arith, inside (test .before) (test .loop-test .taken))
@@ -57,7 +58,7 @@ sub-requires : tie.Need-sub-requires Inv-loop μ-loop
 sub-requires c κs =
     let read = c .before .before in
     let t = read .before .before .before in
-    (rw (read .new .ensures) (t .loop .inv .0 .numbers _), rw (c .before .mul .ensures) (mul-below _ _))
+    (rw (read .new .ensures) (t .loop .inv .0 .proper _), rw (c .before .mul .ensures) (mul-below _ _))
 
 put-both-requires : tie.Need-put-both-requires Inv-loop μ-loop
 put-both-requires c κs =
@@ -78,8 +79,9 @@ loop-again c =
     let test = read .before .before in
     let t = test .before in
     let l = test .loop-test .taken in (
-      widening-turn _ _ _ _ _ _ (t .loop .j) _ _ _ (t .loop .inv .1) l (inside t l) (start t .pre .1) (t .loop .inv .0)
-          (read .new .ensures) (parted .mul .ensures) (made .sub .ensures) (stored .put-both .ensures),
+      widening-turn singles singles-lawful _ _ _ _ _ _ (t .loop .j) _ _ _ (t .loop .inv .1) l (inside t l)
+          (valid-below _ (start t .pre .1)) (t .loop .inv .0) (read .new .ensures) (rw (parted .mul .ensures) (mul-below _ _))
+          (rw (made .sub .ensures) (sub-below _ _)) (parted .mul .ensures) (made .sub .ensures) (stored .put-both .ensures),
       omega (arith, t .loop .inv .1),
       omega (arith, l),
     )
@@ -92,7 +94,7 @@ returns c =
     let t = c .before in
     let a = start t in
     let all : t .loop .j ≡ 2 * a .args .half = omega (arith, t .loop .inv .2, c .loop-test .left) in
-    subst (λ (n : ℕ). Widened (now (a .args .table)) (a .args .base) (a .args .half) (a .args .odd .0) n (t .loop .table)) all
+    subst (λ (n : ℕ). Widened singles (now (a .args .table)) (a .args .base) (a .args .half) (a .args .odd .0) n (t .loop .table)) all
     (t .loop .inv .0)
 
 pub widen-spec : {M : Type 1} → statement M

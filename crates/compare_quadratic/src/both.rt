@@ -1,0 +1,157 @@
+// The passes over two keys at one point of the field of p² elements, whose sides are prepared once for both.
+use compare::Compared;
+use evaluate::work;
+use evaluate_quadratic::Values;
+use evaluate_quadratic::pass;
+use quadratic::Fp2;
+use records::Shape;
+use weights::table::LIMB_PLACES;
+use weights::table::PLACES;
+use weights_quadratic::table;
+ghost use mathlib.Core.Path.{_≡_};
+ghost use lib.ListN.{length};
+ghost use Rattle.quadratic.specs.Parts.{parts};
+ghost use Rattle.quadratic.specs.Quadratic.{quadratic};
+ghost use Rattle.weights.specs.Side.{Ready};
+ghost use Rattle.weights_quadratic.specs.Packed.{packed};
+ghost use Rattle.evaluate.specs.Evaluate.{lastValues};
+ghost use Rattle.evaluate_quadratic.specs.Evaluate.{valuesIn};
+ghost use Rattle.compare.specs.Compare.{comparedAnswer, likeness};
+ghost use Rattle.compare.specs.Inner.{Evaluable, writtenBy};
+ghost use Rattle.compare_quadratic.specs.Inner.{Told};
+
+// Whether the last arrays' three numbers are equal at a point. The sheet ends with those of the second key's arrays over those of the
+// first's. Weights of limbs are prepared where they are estimated to save more, in both keys together, than they cost (`work`). Inner:
+// both keys can be evaluated at the point on the sheet.
+pub(crate) fn run(
+    first: &[u8],
+    first_starts: &[u16],
+    first_arrays: usize,
+    second: &[u8],
+    second_starts: &[u16],
+    second_arrays: usize,
+    rows: &[u32],
+    columns: &[u32],
+    sheet: &mut [u32],
+) -> Compared
+    requires { ⌜ Evaluable quadratic (now first) (now «first_starts») «first_arrays» (now rows) (now columns) (length (now sheet)) ⌝ }
+    requires { ⌜ Evaluable quadratic (now second) (now «second_starts») «second_arrays» (now rows) (now columns) (length (now sheet)) ⌝ }
+    ensures answer { λ r. ⌜ comparedAnswer r ≡ likeness quadratic (lastValues quadratic (now (first .entry)) (now (rows .entry)) (now (columns .entry))) (lastValues quadratic (now (second .entry)) (now (rows .entry)) (now (columns .entry))) ⌝ }
+    ensures sheet { λ _. ⌜ now (sheet .exit) ≡ writtenBy quadratic (now (second .entry)) (now (rows .entry)) (now (columns .entry)) «second_arrays» (writtenBy quadratic (now (first .entry)) (now (rows .entry)) (now (columns .entry)) «first_arrays» (now (sheet .entry))) ⌝ }
+{
+    let first_saved = work::saved(first, first_starts, first_arrays);
+    let second_saved = work::saved(second, second_starts, second_arrays);
+    if work::limbs_pay(
+        first_saved + second_saved,
+        rows.len() / 2 + columns.len() / 2,
+    ) {
+        let mut rowwise = [0u64; LIMB_PLACES];
+        let mut columnwise = [0u64; LIMB_PLACES];
+        return by_sides(
+            first,
+            first_starts,
+            first_arrays,
+            second,
+            second_starts,
+            second_arrays,
+            rows,
+            columns,
+            &mut rowwise,
+            &mut columnwise,
+            sheet,
+        );
+    }
+    let mut rowwise = [0u64; PLACES];
+    let mut columnwise = [0u64; PLACES];
+    by_sides(
+        first,
+        first_starts,
+        first_arrays,
+        second,
+        second_starts,
+        second_arrays,
+        rows,
+        columns,
+        &mut rowwise,
+        &mut columnwise,
+        sheet,
+    )
+}
+
+// The same, with tables to be filled for the two sides. Inner: they have places for them.
+fn by_sides(
+    first: &[u8],
+    first_starts: &[u16],
+    first_arrays: usize,
+    second: &[u8],
+    second_starts: &[u16],
+    second_arrays: usize,
+    rows: &[u32],
+    columns: &[u32],
+    rowwise: &mut [u64],
+    columnwise: &mut [u64],
+    sheet: &mut [u32],
+) -> Compared
+    requires { ⌜ Evaluable quadratic (now first) (now «first_starts») «first_arrays» (now rows) (now columns) (length (now sheet)) ⌝ }
+    requires { ⌜ Evaluable quadratic (now second) (now «second_starts») «second_arrays» (now rows) (now columns) (length (now sheet)) ⌝ }
+    requires { ⌜ Ready packed (now rowwise) × Ready packed (now columnwise) ⌝ }
+    ensures answer { λ r. ⌜ comparedAnswer r ≡ likeness quadratic (lastValues quadratic (now (first .entry)) (now (rows .entry)) (now (columns .entry))) (lastValues quadratic (now (second .entry)) (now (rows .entry)) (now (columns .entry))) ⌝ }
+    ensures sheet { λ _. ⌜ now (sheet .exit) ≡ writtenBy quadratic (now (second .entry)) (now (rows .entry)) (now (columns .entry)) «second_arrays» (writtenBy quadratic (now (first .entry)) (now (rows .entry)) (now (columns .entry)) «first_arrays» (now (sheet .entry))) ⌝ }
+{
+    let most = Shape {
+        rows: (rows.len() / 2) as u8,
+        columns: (columns.len() / 2) as u8,
+    };
+    table::prepare(rows, rowwise);
+    table::prepare(columns, columnwise);
+    pass::over(
+        first,
+        first_starts,
+        first_arrays,
+        most,
+        rowwise,
+        columnwise,
+        sheet,
+    );
+    let one = pass::last(sheet, first_arrays);
+    pass::over(
+        second,
+        second_starts,
+        second_arrays,
+        most,
+        rowwise,
+        columnwise,
+        sheet,
+    );
+    let other = pass::last(sheet, second_arrays);
+    likeness(one, other)
+}
+
+// Whether A, B and C are equal, both parts of each.
+fn likeness(one: Values, other: Values) -> Compared
+    ensures { λ r. ⌜ comparedAnswer r ≡ likeness quadratic (valuesIn one) (valuesIn other) ⌝ }
+{
+    if differ(one.a, other.a) {
+        return Compared::Different;
+    }
+    if differ(one.b, other.b) {
+        return Compared::Different;
+    }
+    if differ(one.c, other.c) {
+        return Compared::Different;
+    }
+    Compared::Same
+}
+
+// Whether two elements differ in a part.
+fn differ(one: Fp2, other: Fp2) -> bool
+    ensures { λ r. ⌜ Told (parts one) (parts other) r ⌝ }
+{
+    if one.u.value() != other.u.value() {
+        return true;
+    }
+    if one.v.value() != other.v.value() {
+        return true;
+    }
+    false
+}

@@ -1,0 +1,5 @@
+pub mod Sums
+pub mod Stores
+pub mod Answers
+pub mod Embedded
+pub mod Examples

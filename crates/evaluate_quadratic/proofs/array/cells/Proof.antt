@@ -1,0 +1,142 @@
+-- `evaluate_quadratic::array::cells` meets its contract: one cell a turn.
+use Prim.Native.Nat.{ℕ, _+_, _-_, _≤_, _<_}
+use mathlib.Core.List.{List, []}
+use native.Mathlib.Omega.{arith}
+use denote.Ref.{now}
+use borrow.Author.Needs.{needs}
+use lib.ListN.{length, getD}
+use Rattle.quadratic.specs.Quadratic.{quadratic}
+use Rattle.weights.specs.Side.{prepared}
+use Rattle.weights_quadratic.specs.Packed.{packed}
+use Rattle.key.specs.KeyArrays.{keyArrays}
+use Rattle.evaluate.specs.Inner.{ReachedIn}
+use Rattle.evaluate_quadratic.specs.Inner.{reducedIn, Light}
+use Rattle.evaluate.proofs.Added.{cells-done}
+use Rattle.evaluate.proofs.Adding.{CellsLeft, cells-begun}
+use Rattle.evaluate.proofs.Indexing.{accepts, entries-run, opening-inside}
+use Rattle.evaluate_quadratic.proofs.Sums.{Bounded, bounded-begun, bounded-light, bounded-onward}
+use Rattle.evaluate.proofs.Prepared.{rows-further, columns-further}
+use Rattle.evaluate.proofs.Turns.{cell-room, cell-below, cell-added}
+use Rattle.evaluate_quadratic.proofs.array.cells.Statement.{statement}
+use Rattle.evaluate_quadratic.proofs.array.cells.Tie as tie
+
+-- what is left to add is the same for every sheet
+abbrev Inv-loop : tie.InvT-loop
+Inv-loop key starts arrays i reached rowwise columnwise to sums₀ at₀ sums at =
+    ((sheet : List ℕ) → CellsLeft quadratic key (prepared packed rowwise) (prepared packed columnwise) sheet i to (reducedIn sums) at) × Bounded sums at
+
+abbrev μ-loop : tie.MeasureT-loop
+μ-loop key starts arrays i reached rowwise columnwise to sums₀ at₀ sums at = to - at
+
+-- before the first turn: the start, and an offset that fits
+abbrev begun : tie.After-shared-slice-known5 Inv-loop μ-loop → tie.Start Inv-loop μ-loop
+begun c = c .before .before .before .before .before .before .before
+
+module _ (a : tie.Start Inv-loop μ-loop) where
+  inside : a .args .i < length (keyArrays (now (a .args .key)))
+  inside = omega (arith, a .pre .1)
+
+  offset-small :
+      (getD (now (a .args .starts)) (a .args .i) 0 + 3 ≤ length (now (a .args .key))) × (length (now (a .args .key)) ≤ 65536)
+  offset-small = opening-inside _ _ (a .pre .0) (a .args .i) inside
+
+  far : ReachedIn packed (keyArrays (now (a .args .key))) (a .args .i) (a .args .reached) (now (a .args .rowwise)) (now (a .args .columnwise))
+  far = a .pre .1 .1 .1 .1
+
+behind-requires : tie.Need-behind-requires Inv-loop μ-loop
+behind-requires c κs = let a = c .before .before .before .before in (a .pre .0, (a .pre .1 .0, a .pre .1 .1 .0))
+
+nothing-requires : tie.Need-nothing-requires Inv-loop μ-loop
+nothing-requires c κs = search needs
+
+mul-at : tie.Need-mul-at Inv-loop μ-loop
+mul-at c =
+    let a = c .before .before .before .before .before .before in omega (arith, inside a, accepts _ _ (a .pre .0) .at-most-1024)
+
+shared-slice-read-at : tie.Need-shared-slice-read-at Inv-loop μ-loop
+shared-slice-read-at c = let a = begun c in omega (arith, a .pre .0 .room, inside a)
+
+cast-at : tie.Need-cast-at Inv-loop μ-loop
+cast-at c = record { fits = omega (arith, offset-small (begun c)) }
+
+add-at : tie.Need-add-at Inv-loop μ-loop
+add-at c = record { fits = omega (arith, offset-small (begun c)) }
+
+loop-holds : tie.Need-loop-holds Inv-loop μ-loop
+loop-holds c =
+    let a = begun c in
+    rw (c .before .nothing .ensures) (
+      λ sheet. rw (c .before .before .behind .ensures)
+          (cells-begun quadratic _ _ _ _ _ _ _ (entries-run _ _ (a .pre .0) (a .args .i) (inside a))
+          (accepts _ _ (a .pre .0) .well-formed .arrays-fit (a .args .i) (inside a) .entries-fit) (a .pre .1 .1 .1 .0)),
+      bounded-begun _,
+    )
+
+-- in a turn: the start, and that the cell lies in the key
+abbrev start : tie.In-loop Inv-loop μ-loop → tie.Start Inv-loop μ-loop
+start c = begun (c .before .before)
+
+room : (c : tie.In-loop Inv-loop μ-loop) → c .before .loop .at + 21 ≤ length (now (start c .args .key))
+room c =
+    let a = start c in
+    cell-room quadratic _ _ _ _ _ _ (a .args .reached) (rows-further packed (far a))
+    (columns-further packed (far a)) _ _ (c .loop-test .taken) (c .before .loop .inv .0 [])
+
+add-cell : tie.Need-add-cell Inv-loop μ-loop
+add-cell c = omega (arith, room c, offset-small (start c) .1)
+
+cell-requires : tie.Need-cell-requires Inv-loop μ-loop
+cell-requires c κs = omega (arith, room c)
+
+-- the sums have room for more
+light : (c : tie.In-loop Inv-loop μ-loop) → Light (c .before .loop .sums)
+light c = bounded-light _ (c .before .loop .at) (omega (arith, room c, offset-small (start c) .1)) (c .before .loop .inv .1)
+
+cell-requires-2 : tie.Need-cell-requires-2 Inv-loop μ-loop
+cell-requires-2 c κs =
+    let t = c .before in
+    let a = start t in (
+      cell-below quadratic _ _ _ _ _ _ (a .args .reached) (rows-further packed (far a))
+          (columns-further packed (far a)) _ _ (t .loop-test .taken) (t .before .loop .inv .0 []) _ (c .cell .ensures),
+      (far a .rows-reached .side, (far a .columns-reached .side, light t)),
+    )
+
+add-at-2 : tie.Need-add-at-2 Inv-loop μ-loop
+add-at-2 c = let t = c .before .before in omega (arith, room t, offset-small (start t) .1)
+
+loop-less : tie.Need-loop-less Inv-loop μ-loop
+loop-less c = omega (arith, c .before .before .loop-test .taken)
+
+loop-again : tie.Need-loop-again Inv-loop μ-loop
+loop-again c =
+    let t = c .before .before in
+    let a = start t in (
+      λ sheet. cell-added quadratic _ _ _ _ _ _ (a .args .reached) (rows-further packed (far a))
+          (columns-further packed (far a)) _ _ (t .loop-test .taken) (t .before .loop .inv .0 sheet) _
+          (c .before .cell .ensures) _ (c .cell2 .ensures .is),
+      bounded-onward _ _ _ _ _ (omega arith) (c .cell2 .ensures) (t .before .loop .inv .1),
+    )
+
+returns : tie.Need-returns Inv-loop μ-loop
+returns c sheet = cells-done quadratic _ _ _ _ _ _ _ _ (omega (arith, c .loop-test .left)) (c .before .loop .inv .0 sheet)
+
+pub cells-spec : {M : Type 1} → statement M
+cells-spec =
+    tie.close
+    (tie.spec
+    Inv-loop
+    μ-loop
+    behind-requires
+    nothing-requires
+    mul-at
+    shared-slice-read-at
+    cast-at
+    add-at
+    loop-holds
+    add-cell
+    cell-requires
+    cell-requires-2
+    add-at-2
+    loop-less
+    loop-again
+    returns)

@@ -1,0 +1,137 @@
+// One array of an accepted key: its values from those of the arrays before it.
+use crate::Values;
+use crate::entry;
+use crate::entry::Sums;
+use evaluate::array;
+use records::Shape;
+use records::read;
+use weights_quadratic::side;
+ghost use mathlib.Core.Path.{_≡_};
+ghost use mathlib.Core.List.{List};
+ghost use Prim.Native.Nat.{ℕ, _<_};
+ghost use lib.ListN.{length};
+ghost use Rattle.quadratic.specs.Quadratic.{quadratic};
+ghost use Rattle.arrays.specs.Arrays.{arrayAt};
+ghost use Rattle.weights.specs.Side.{prepared};
+ghost use Rattle.weights_quadratic.specs.Packed.{packed};
+ghost use Rattle.key.specs.KeyArrays.{keyArrays};
+ghost use Rattle.evaluate.specs.Inner.{Indexed, Sides, ReachedIn, Sparse, Recursive, Filled, nextValues};
+ghost use Rattle.evaluate_quadratic.specs.Evaluate.{valuesIn};
+ghost use Rattle.evaluate_quadratic.specs.Inner.{reducedIn};
+
+// The values of array i, in a key that has so many arrays: the sums of what its entries add. The two sides of the point have as many
+// coordinates as `most` has bits. Inner: the key is accepted and indexed, the tables are ones for it, and the values of the arrays
+// before stand on the sheet.
+pub(crate) fn values(
+    key: &[u8],
+    starts: &[u16],
+    arrays: usize,
+    i: usize,
+    most: Shape,
+    rowwise: &[u64],
+    columnwise: &[u64],
+    sheet: &[u32],
+) -> Values
+    requires { ⌜ Indexed (now key) (now starts) ⌝ }
+    requires { ⌜ arrays ≡ length (keyArrays (now key)) ⌝ }
+    requires { ⌜ i < arrays ⌝ }
+    requires { ⌜ Sides packed (now key) most (now rowwise) (now columnwise) ⌝ }
+    requires { ⌜ Filled quadratic i (now sheet) ⌝ }
+    ensures { λ r. ⌜ valuesIn r ≡ nextValues quadratic (keyArrays (now (key .entry))) (prepared packed (now (rowwise .entry))) (prepared packed (now (columnwise .entry))) (now (sheet .entry)) i ⌝ }
+{
+    let own = array::shape(key, starts, i);
+    let reached = Shape {
+        rows: side::reach(own.rows, most.rows, rowwise),
+        columns: side::reach(own.columns, most.columns, columnwise),
+    };
+    let sums = total(key, starts, arrays, i, reached, rowwise, columnwise, sheet);
+    Values {
+        a: sums.a.element(),
+        b: sums.b.element(),
+        c: sums.c.element(),
+    }
+}
+
+// The same, not reduced yet, where weights are taken over so many bits. Inner: as for `values`, and they may be taken so far.
+fn total(
+    key: &[u8],
+    starts: &[u16],
+    arrays: usize,
+    i: usize,
+    reached: Shape,
+    rowwise: &[u64],
+    columnwise: &[u64],
+    sheet: &[u32],
+) -> Sums
+    requires { ⌜ Indexed (now key) (now starts) ⌝ }
+    requires { ⌜ arrays ≡ length (keyArrays (now key)) ⌝ }
+    requires { ⌜ i < arrays ⌝ }
+    requires { ⌜ ReachedIn packed (keyArrays (now key)) i reached (now rowwise) (now columnwise) ⌝ }
+    requires { ⌜ Filled quadratic i (now sheet) ⌝ }
+    ensures { λ r. ⌜ reducedIn r ≡ nextValues quadratic (keyArrays (now (key .entry))) (prepared packed (now (rowwise .entry))) (prepared packed (now (columnwise .entry))) (now (sheet .entry)) i ⌝ }
+{
+    let opening = starts[i] as usize;
+    if key[opening] == 2 {
+        cells(key, starts, arrays, i, reached, rowwise, columnwise)
+    } else {
+        calls(key, starts, arrays, i, reached, rowwise, columnwise, sheet)
+    }
+}
+
+// The same of a sparse array, whatever stands on a sheet: its cells, added up one by one. Inner: as for `total`.
+fn cells(
+    key: &[u8],
+    starts: &[u16],
+    arrays: usize,
+    i: usize,
+    reached: Shape,
+    rowwise: &[u64],
+    columnwise: &[u64],
+) -> Sums
+    requires { ⌜ Indexed (now key) (now starts) ⌝ }
+    requires { ⌜ arrays ≡ length (keyArrays (now key)) ⌝ }
+    requires { ⌜ i < arrays ⌝ }
+    requires { ⌜ Sparse (arrayAt (keyArrays (now key)) i .entries) ⌝ }
+    requires { ⌜ ReachedIn packed (keyArrays (now key)) i reached (now rowwise) (now columnwise) ⌝ }
+    ensures { λ r. ⌜ ((sheet : List ℕ) → reducedIn r ≡ nextValues quadratic (keyArrays (now (key .entry))) (prepared packed (now (rowwise .entry))) (prepared packed (now (columnwise .entry))) sheet i) ⌝ }
+{
+    let to = array::behind(key, starts, arrays, i);
+    let mut sums = entry::nothing();
+    let mut at = starts[i] as usize + 3;
+    while at < to {
+        let c = read::cell(key, at + 1);
+        sums = entry::cell(sums, c, reached, rowwise, columnwise);
+        at = at + 21;
+    }
+    sums
+}
+
+// The same of a recursive array: its calls, added up one by one. Inner: as for `total`.
+fn calls(
+    key: &[u8],
+    starts: &[u16],
+    arrays: usize,
+    i: usize,
+    reached: Shape,
+    rowwise: &[u64],
+    columnwise: &[u64],
+    sheet: &[u32],
+) -> Sums
+    requires { ⌜ Indexed (now key) (now starts) ⌝ }
+    requires { ⌜ arrays ≡ length (keyArrays (now key)) ⌝ }
+    requires { ⌜ i < arrays ⌝ }
+    requires { ⌜ Recursive (arrayAt (keyArrays (now key)) i .entries) ⌝ }
+    requires { ⌜ ReachedIn packed (keyArrays (now key)) i reached (now rowwise) (now columnwise) ⌝ }
+    requires { ⌜ Filled quadratic i (now sheet) ⌝ }
+    ensures { λ r. ⌜ reducedIn r ≡ nextValues quadratic (keyArrays (now (key .entry))) (prepared packed (now (rowwise .entry))) (prepared packed (now (columnwise .entry))) (now (sheet .entry)) i ⌝ }
+{
+    let to = array::behind(key, starts, arrays, i);
+    let mut sums = entry::nothing();
+    let mut at = starts[i] as usize + 3;
+    while at < to {
+        let c = read::call(key, at + 1);
+        sums = entry::call(sums, c, key, starts, reached, rowwise, columnwise, sheet);
+        at = at + 11;
+    }
+    sums
+}

@@ -1,0 +1,9 @@
+pub mod NoRoot
+pub mod Products
+pub mod Fp2Field
+pub mod Quadratic
+pub mod TwoByTwo
+pub mod Below
+pub mod Packing
+pub mod Sizes
+pub mod Examples

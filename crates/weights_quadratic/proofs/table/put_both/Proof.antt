@@ -1,0 +1,39 @@
+-- `weights_quadratic::table::put_both` meets its contract: two stores.
+use denote.Ref.{now}
+use borrow.Author.Needs.{needs}
+use Rattle.weights.proofs.Stores.{two-stores}
+use Rattle.weights_quadratic.proofs.table.put_both.Statement.{statement}
+use Rattle.weights_quadratic.proofs.table.put_both.Tie as tie
+
+mul-table : tie.Need-mul-table
+mul-table c = search needs
+
+slice-write-table : tie.Need-slice-write-table
+slice-write-table c = search needs
+
+add-table : tie.Need-add-table
+add-table c = search needs
+
+mul-table-2 : tie.Need-mul-table-2
+mul-table-2 c = search needs
+
+slice-write-table-2 : tie.Need-slice-write-table-2
+slice-write-table-2 c = search needs
+
+same-length : tie.Need-same-length
+same-length c = search needs
+
+returns : tie.Need-returns
+returns c = two-stores (now (c .args .table)) (c .args .at) _ _
+
+pub put-both-spec : {M : Type 1} → statement M
+put-both-spec =
+    tie.close
+    (tie.spec
+    mul-table
+    slice-write-table
+    add-table
+    mul-table-2
+    slice-write-table-2
+    same-length
+    returns)

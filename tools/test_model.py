@@ -1,0 +1,124 @@
+#!/usr/bin/env python3
+"""Holds model.py to unroll.py on drawn keys, points and sheets, over p and over p²: both unroll a key, each in its own way.
+
+The points have numbers 0, 1, 2, p - 1 and any others; some have every number p - 1. Keys, points and sheets are whole or faulty,
+and each refusal must have occurred. At points with every v zero model.py must answer over p² what it answers over p, as u with
+v zero. The cases over p² (quadratics.py) are worked out too, and must agree with what is worded there. Prints one line and ends with
+status 0, or prints the first fault and ends with status 1.
+"""
+
+import collections
+import sys
+
+import unroll
+from cases import Cases
+from draw import Draw, damaged, drawn_edges, drawn_key, drawn_point, encoded, nearly, rewritten
+from evaluations import numbered
+from model import P, PRIME, QUADRATIC, compare, evaluate, outcome, refused
+from quadratics import quadratic_cases, with_zeros
+from refusals import spoiled
+
+FIELDS = ((PRIME, unroll.F_P), (QUADRATIC, unroll.F_P2))
+KEYS = 250
+OUTCOMES = {
+    "evaluate": {"accepted", *range(2, 14), 21, 22, 23, 31} - {6},
+    "compare": {"same", "different", *range(2, 14), 21, 22, 23, 31, 35} - {6},
+}
+
+
+class Failed(Exception):
+    """The two differ."""
+
+
+def unrolled_evaluation(data, rows, columns, sheet, over):
+    """What unroll.py answers, as the model words it, and the kind of outcome."""
+    try:
+        values, after = unroll.evaluate_on(data, rows, columns, sheet, over)
+    except unroll.Refused as refusal:
+        return outcome(refused(refusal.number, refusal.place), sheet), refusal.number
+    return outcome(" ".join(map(str, values)), after), "accepted"
+
+
+def unrolled_comparison(first, second, rows, columns, sheet, over):
+    """The same of two keys that are compared."""
+    try:
+        same, after = unroll.compare_on(first, second, rows, columns, sheet, over)
+    except unroll.Refused as refusal:
+        return outcome(f"{refusal.which} {refused(refusal.number, refusal.place)}", sheet), refusal.number
+    verdict = "same" if same else "different"
+    return outcome(verdict, after), verdict
+
+
+def hold(call, got, wanted, about):
+    """Raises Failed where the two answers differ."""
+    if got != wanted:
+        raise Failed(f"{call} {about}\nmodel: {got}\nunrolled: {wanted}")
+
+
+def points(draw, bits):
+    """Points of so many numbers on each side: any numbers, edges, and p - 1 alone."""
+    yield drawn_point(draw, bits)
+    yield drawn_edges(draw, bits)
+    yield tuple([P - 1] * n for n in bits)
+
+
+def hold_old_points(data, point, sheet):
+    """Raises Failed where a point with every v zero does not give the old answer."""
+    old = evaluate(data, *point, sheet).split(" sheet")[0].split()
+    new = evaluate(data, *map(with_zeros, point), sheet, field=QUADRATIC).split(" sheet")[0].split()
+    hold("v zero", new, [str(x) for x in with_zeros(map(int, old))], f"{data.hex()} at {point}")
+
+
+def hold_key(draw, records, counts, field, over):
+    """Evaluates and compares one drawn key, whole and damaged."""
+    bits = [field.size * n for n in records[0][1]]
+    whole = encoded(records)
+    others = [whole, encoded(nearly(draw, records)), encoded(rewritten(draw, records)), encoded(drawn_key(draw))]
+    for data in (whole, *damaged(draw, records)):
+        for point in points(draw, bits):
+            rows, columns = point if draw.below(2) else (spoiled(draw, side) for side in point)
+            sheet = numbered(draw.below(12 * field.size) + 3 * field.size)
+            about = f"{data.hex()} at {rows} {columns} on {len(sheet)} places"
+            wanted, kind = unrolled_evaluation(data, rows, columns, sheet, over)
+            hold("evaluate", evaluate(data, rows, columns, sheet, field=field), wanted, about)
+            counts["evaluate", kind] += 1
+            pair = (data, others[draw.below(4)])[:: 1 - 2 * draw.below(2)]
+            wanted, kind = unrolled_comparison(*pair, rows, columns, sheet, over)
+            hold("compare", compare(*pair, rows, columns, sheet, field=field), wanted, f"{about}, {pair[1].hex()}")
+            counts["compare", kind] += 1
+
+
+def hold_all():
+    """Holds all drawn keys over both fields, and returns how many cases there were."""
+    draw, cases = Draw(), 0
+    for field, over in FIELDS:
+        counts = collections.Counter()
+        for _ in range(KEYS):
+            records = drawn_key(draw, 4, draw.below(2))
+            hold_key(draw, records, counts, field, over)
+        for call, outcomes in OUTCOMES.items():
+            missing = [each for each in outcomes if not counts[call, each]]
+            if missing:
+                raise Failed(f"{call}{field.suffix}: these outcomes did not occur: {missing}")
+        cases += counts.total()
+    for _ in range(KEYS):
+        records = drawn_key(draw, 4, draw.below(2))
+        hold_old_points(encoded(records), drawn_edges(draw, records[0][1]), numbered(6 * len(records)))
+    return cases + KEYS
+
+
+def main():
+    """Says how it went."""
+    worded = Cases()
+    try:
+        quadratic_cases(worded, Draw())
+        cases = hold_all()
+    except (Failed, ValueError) as failure:
+        print(f"the model fails: {failure}")
+        return 1
+    print(f"the model answers what is unrolled: {cases} cases over both fields, {len(worded.inputs)} worded ones over p²")
+    return 0
+
+
+if __name__ == "__main__":
+    sys.exit(main())
