@@ -24,7 +24,7 @@ ghost use Rattle.evaluate_quadratic.specs.Evaluate.{valuesIn};
 // and the sheet has places for all.
 //
 // What is lent is borrowed anew where it is handed on, as in `evaluate::at_point`.
-pub fn run(
+pub(crate) fn run(
     key: &[u8],
     starts: &[u16],
     arrays: usize,
