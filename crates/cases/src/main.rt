@@ -1,5 +1,5 @@
 // Runs the cases of standard input through the public calls and prints a line for each: the case, what is wanted and what
-// was got. tools/cases.py writes the cases and the wanted lines from 01.
+// was got. tests/cases writes the cases and the wanted lines from 01.
 //
 // Standard input is the number of cases in four bytes, and then each case: a header of numbers, the text to print in
 // front of what was got, bytes of data, and, where the call has them, the coordinates and what the sheet holds, or the values

@@ -1,5 +1,5 @@
 // Runs the cases of standard input through evaluate and compare over the field of p² elements and prints a line for each: the
-// case, what is wanted and what was got. tools/cases.py writes the cases and the wanted lines from 02, E2. Standard input is laid
+// case, what is wanted and what was got. tests/cases writes the cases and the wanted lines from 02, E2. Standard input is laid
 // out as that of crates/cases.
 mod calls;
 

@@ -1,0 +1,64 @@
+"""Keys of many levels that are too large to unroll, with what they evaluate to in closed form.
+
+A tower begins with an array of one cell, and each level calls the array before it. A level is its axis (0 adds a row
+bit, 1 a column bit, None neither) and how often it calls at position 0 and, where it adds a bit, at position 1. So the
+dense value at a place is the cell's times one count for each level, which the bit of the place that the level added
+chooses. Summed over all places with their weights this is a product: the cell's value times, for each level, its first
+count times 1 - r and its second times r, r being the coordinate of the bit that it added.
+"""
+
+from tests.model.dense import numbers_of
+from tests.model.fields import P, PRIME
+from tests.model.words import joined, times, words
+
+
+def shapes(levels):
+    """The bits of each array of a tower."""
+    bits = [(0, 0)]
+    for axis, _ in levels:
+        bits.append(tuple(k + (side == axis) for side, k in enumerate(bits[-1])))
+    return bits
+
+
+def calls(axis, counts, called):
+    """The calls of a level in words."""
+    for a, count in enumerate(counts):
+        yield times(count, words("call", (called, a * (axis == 0), a * (axis == 1))))
+
+
+def tower(values, levels):
+    """The key of a tower in words."""
+    bits = shapes(levels)
+    items = [words("head", bits[-1]), "sparse 0 0", words("cell 0 0", values)]
+    for i, (axis, counts) in enumerate(levels):
+        items.extend([words("recursive", bits[i + 1]), *calls(axis, counts, i)])
+    return joined(*items, "end")
+
+
+def factor(axis, counts, bits, point):
+    """What a level multiplies the values of the array before it by, which has these bits."""
+    if axis is None:
+        return counts[0]
+    r = point[axis][bits[axis]]
+    return counts[0] * (1 - r) + counts[1] * r
+
+
+def tower_values(values, levels, point, field=PRIME):
+    """The numbers of A, B and C of each array of a tower at a point: those of its row and of its column coordinates."""
+    point = [field.elements(side) for side in point]
+    known = [tuple(map(field.element, values))]
+    for bits, (axis, counts) in zip(shapes(levels), levels):
+        known.append(tuple(factor(axis, counts, bits, point) * x % P for x in known[-1]))
+    return [numbers_of(each, field) for each in known]
+
+
+def drawn_levels(draw, count, most):
+    """So many levels, a third of them on each axis, but at most thirty; each calls at most so often at a position."""
+    side = min(30, count // 3)
+    axes = [0] * side + [1] * side + [None] * (count - 2 * side)
+    levels = []
+    while axes:
+        axis = axes.pop(draw.below(len(axes)))
+        positions = 1 if axis is None else 2
+        levels.append((axis, [1 + draw.below(most) for _ in range(positions)]))
+    return levels

@@ -1,0 +1,10 @@
+"""The program keysheet, held to tests/unroll. __main__ takes the program's path, and says how it went.
+
+runs       every case, run: what keysheet prints, and what is unrolled
+feeds      the ways to run the program on an input
+inputs     inputs and their bytes, and cases: inputs with what is printed for them
+edges      the edges that the request names
+key_edges  those of keys
+drawn      whole inputs, drawn at random
+damage     drawn inputs at a limit, out of order or damaged
+"""

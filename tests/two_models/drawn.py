@@ -1,0 +1,101 @@
+"""Drawn keys, points and sheets, answered by both models."""
+
+import collections
+
+from tests.draw.changes import damaged, nearly, rewritten
+from tests.draw.keys import drawn_key, encoded
+from tests.draw.numbers import Draw, drawn_edges, drawn_point, numbered, spoiled
+from tests.model.calls import compare, evaluate
+from tests.model.fields import P, PRIME, QUADRATIC, with_zeros
+from tests.model.words import outcome, refused
+from tests.unroll.calls import compare_on, evaluate_on
+from tests.unroll.fields import F_P, F_P2
+from tests.unroll.keys import Refused
+
+FIELDS = ((PRIME, F_P), (QUADRATIC, F_P2))
+KEYS = 250
+OUTCOMES = {
+    "evaluate": {"accepted", *range(2, 14), 21, 22, 23, 31} - {6},
+    "compare": {"same", "different", *range(2, 14), 21, 22, 23, 31, 35} - {6},
+}
+
+
+class Failed(Exception):
+    """The two differ."""
+
+
+def unrolled_evaluation(data, rows, columns, sheet, over):
+    """What tests/unroll answers, as tests/model words it, and the kind of outcome."""
+    try:
+        values, after = evaluate_on(data, rows, columns, sheet, over)
+    except Refused as refusal:
+        return outcome(refused(refusal.number, refusal.place), sheet), refusal.number
+    return outcome(" ".join(map(str, values)), after), "accepted"
+
+
+def unrolled_comparison(first, second, rows, columns, sheet, over):
+    """The same of two keys that are compared."""
+    try:
+        same, after = compare_on(first, second, rows, columns, sheet, over)
+    except Refused as refusal:
+        return outcome(f"{refusal.which} {refused(refusal.number, refusal.place)}", sheet), refusal.number
+    verdict = "same" if same else "different"
+    return outcome(verdict, after), verdict
+
+
+def hold(call, got, wanted, about):
+    """Raises Failed where the two answers differ."""
+    if got != wanted:
+        raise Failed(f"{call} {about}\nmodel: {got}\nunrolled: {wanted}")
+
+
+def points(draw, bits):
+    """Points of so many numbers on each side: any numbers, edges, and p - 1 alone."""
+    yield drawn_point(draw, bits)
+    yield drawn_edges(draw, bits)
+    yield tuple([P - 1] * n for n in bits)
+
+
+def hold_old_points(data, point, sheet):
+    """Raises Failed where a point with every v zero does not give the old answer."""
+    old = evaluate(data, *point, sheet).split(" sheet")[0].split()
+    new = evaluate(data, *map(with_zeros, point), sheet, field=QUADRATIC).split(" sheet")[0].split()
+    hold("v zero", new, [str(x) for x in with_zeros(map(int, old))], f"{data.hex()} at {point}")
+
+
+def hold_key(draw, records, counts, field, over):
+    """Evaluates and compares one drawn key, whole and damaged."""
+    bits = [field.size * n for n in records[0][1]]
+    whole = encoded(records)
+    others = [whole, encoded(nearly(draw, records)), encoded(rewritten(draw, records)), encoded(drawn_key(draw))]
+    for data in (whole, *damaged(draw, records)):
+        for point in points(draw, bits):
+            rows, columns = point if draw.below(2) else (spoiled(draw, side) for side in point)
+            sheet = numbered(draw.below(12 * field.size) + 3 * field.size)
+            about = f"{data.hex()} at {rows} {columns} on {len(sheet)} places"
+            wanted, kind = unrolled_evaluation(data, rows, columns, sheet, over)
+            hold("evaluate", evaluate(data, rows, columns, sheet, field=field), wanted, about)
+            counts["evaluate", kind] += 1
+            pair = (data, others[draw.below(4)])[:: 1 - 2 * draw.below(2)]
+            wanted, kind = unrolled_comparison(*pair, rows, columns, sheet, over)
+            hold("compare", compare(*pair, rows, columns, sheet, field=field), wanted, f"{about}, {pair[1].hex()}")
+            counts["compare", kind] += 1
+
+
+def hold_all():
+    """Holds all drawn keys over both fields, and returns how many cases there were."""
+    draw, cases = Draw(), 0
+    for field, over in FIELDS:
+        counts = collections.Counter()
+        for _ in range(KEYS):
+            records = drawn_key(draw, 4, draw.below(2))
+            hold_key(draw, records, counts, field, over)
+        for call, outcomes in OUTCOMES.items():
+            missing = [each for each in outcomes if not counts[call, each]]
+            if missing:
+                raise Failed(f"{call}{field.suffix}: these outcomes did not occur: {missing}")
+        cases += counts.total()
+    for _ in range(KEYS):
+        records = drawn_key(draw, 4, draw.below(2))
+        hold_old_points(encoded(records), drawn_edges(draw, records[0][1]), numbered(6 * len(records)))
+    return cases + KEYS
