@@ -1,5 +1,4 @@
--- What follows from the laws of a finite field: equality is decided by the elements' numbers, and a product is nought only
--- where a factor is.
+-- What follows from the laws of a finite field: equality is decided by the elements' numbers, and a product is zero only where a factor is.
 use Prim.Native.Nat.{ℕ, _<_}
 use mathlib.Core.Logic.{_⊎_, inl, inr}
 use mathlib.Core.Path.{_≡_, sym, ap, _∙_}

@@ -1,4 +1,4 @@
--- Lines over a finite field: a line that is nought at two elements is nought everywhere.
+-- Lines over a finite field: a line that is zero at two elements is zero everywhere.
 use Prim.Native.Nat.{ℕ, _-_, _*_, _≤_, _<_}
 use mathlib.Core.Logic.{_⊎_, inl, inr}
 use mathlib.Core.Path.{_≡_, sym, ap, _∙_}
@@ -6,7 +6,7 @@ use Rattle.algebra.specs.Arithmetic.{Arithmetic, sumBelow, whole}
 use Rattle.algebra.specs.Field.{Ring, FiniteField}
 use Rattle.algebra.proofs.Fields.{decide, no-zero-divisors}
 use Rattle.algebra.proofs.Rings.{nought-add, nought-mul, add-mul, cancel, cancel-nought, equal}
-use Rattle.algebra.proofs.Totals.{total-but-one}
+use Rattle.algebra.proofs.WholeNumberSums.{total-but-one}
 
 -- the line that is a at 0 and b at 1
 unfoldable pub line : (𝓐 : Arithmetic) → 𝓐 .Carrier → 𝓐 .Carrier → 𝓐 .Carrier → 𝓐 .Carrier

@@ -1,4 +1,4 @@
--- What follows from the laws of a commutative ring: the laws turned round, cancelling, and nought as a factor.
+-- What follows from the laws of a commutative ring: the laws turned round, cancelling, and zero as a factor.
 use mathlib.Core.Path.{_≡_, sym, ap, ap₂, _∙_}
 use Rattle.algebra.specs.Arithmetic.{Arithmetic}
 use Rattle.algebra.specs.Field.{Ring}

@@ -1,5 +1,4 @@
--- Sums over the numbers below n, by the laws of a ring: congruence, linearity, pairs of terms, two sums exchanged, and a
--- window outside which all is nought.
+-- Sums over the numbers below n in a ring: of equal terms, linear, in pairs, two exchanged, and with zero outside a window.
 use Prim.Native.Nat.{ℕ, zero, suc, _+_, _-_, _*_, _≤_, _<_}
 use mathlib.Core.Path.{_≡_, refl, sym, ap, ap₂, _∙_}
 use native.Mathlib.Nat.{add-zero, add-suc}

@@ -45,7 +45,7 @@ matricesBelow 𝓐 v P P' arrays (suc n) =
     before ++ (entriesMatrix 𝓐 v P P' arrays (matrixAt 𝓐 before) (arrayAt arrays n .entries) ∷ [])
 
 -- The dense form of the array numbered i. The paper's recursive equation for it, and that the equation has no other solution,
--- are `dense-is` and `dense-only` in proofs/Denses.antt; outside 2^k rows and 2^k' columns it is zero (`dense-outside` in
--- proofs/Shapes.antt).
+-- are `dense-is` and `dense-only` in proofs/DenseEquation.antt; outside 2^k rows and 2^k' columns it is zero (`dense-outside` in
+-- proofs/DenseOutsideShape.antt).
 abbrev pub dense : (𝓐 : Arithmetic) → (Values → 𝓐 .Carrier) → Placing → Placing → List Array → ℕ → Matrix 𝓐
 dense 𝓐 v P P' arrays i = matrixAt 𝓐 (matricesBelow 𝓐 v P P' arrays (length arrays)) i

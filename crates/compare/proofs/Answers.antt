@@ -1,22 +1,11 @@
--- An answer is determined by what it says, and "same" is not "different".
+-- An answer is determined by what it says.
 use Prim.Native.Nat.{ℕ}
-use mathlib.Core.Bool.{true, false≢true}
 use mathlib.Core.Path.{_≡_, refl, ap₂}
 use native.Mathlib.Omega.{arith}
 use Rattle.refusal.specs.Outcome.{refusalOf}
 use Rattle.refusal.proofs.Outcomes.{refusal-injective}
-use Rattle.compare.specs.AgreementBound.{isSame}
-use Rattle.compare.specs.Compare.{Answer, same, different, refusedFor, comparedAnswer}
+use Rattle.compare.specs.Answer.{comparedAnswer}
 use Rattle.compare.specs.declared.Compared.{Compared}
-
-pub same-not-different : same ≡ different → ⊥
-same-not-different e = let o : _≡_ {A = ℕ} 0 1 = cc in omega arith
-
-pub same-only : (answer : Answer) → isSame answer ≡ true → answer ≡ same
-unfolding isSame
-same-only same e = refl
-same-only different e = absurd (false≢true e)
-same-only (refusedFor which number place) e = absurd (false≢true e)
 
 pub compared-injective : (r s : Compared) → comparedAnswer r ≡ comparedAnswer s → r ≡ s
 compared-injective Compared.Same Compared.Same e = refl

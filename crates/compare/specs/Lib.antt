@@ -1,3 +1,1 @@
-pub mod Compare
-pub mod AgreementBound
-pub mod Inner
+pub mod Answer

@@ -2,7 +2,7 @@
 use crate::Compared;
 use evaluate::Values;
 use evaluate::pass;
-use evaluate::work;
+use indexed::work;
 use records::Shape;
 use weights::table;
 ghost use mathlib.Core.Path.{_≡_};
@@ -10,9 +10,10 @@ ghost use lib.ListN.{length};
 ghost use Rattle.field.specs.Scalars.{prime};
 ghost use Rattle.weights.specs.Side.{Ready};
 ghost use Rattle.weights.specs.Words.{singles};
-ghost use Rattle.evaluate.specs.Evaluate.{valuesIn, lastValues};
-ghost use Rattle.compare.specs.Compare.{comparedAnswer, likeness};
-ghost use Rattle.compare.specs.Inner.{Evaluable, writtenBy};
+ghost use Rattle.evaluate.specs.Answer.{valuesIn};
+ghost use Rattle.comparison.specs.Compare.{likeness};
+ghost use Rattle.comparison.specs.Inner.{Evaluable, likenessAt, bothWritten};
+ghost use Rattle.compare.specs.Answer.{comparedAnswer};
 
 // Whether the last arrays' three numbers are equal at a point. The sheet ends with those of the second key's arrays over those of the
 // first's. Weights of limbs are prepared where they are estimated to save more, in both keys together, than they cost (`work`). Inner:
@@ -30,8 +31,13 @@ pub(crate) fn run(
 ) -> Compared
     requires { ⌜ Evaluable prime (now first) (now «first_starts») «first_arrays» (now rows) (now columns) (length (now sheet)) ⌝ }
     requires { ⌜ Evaluable prime (now second) (now «second_starts») «second_arrays» (now rows) (now columns) (length (now sheet)) ⌝ }
-    ensures answer { λ r. ⌜ comparedAnswer r ≡ likeness prime (lastValues prime (now (first .entry)) (now (rows .entry)) (now (columns .entry))) (lastValues prime (now (second .entry)) (now (rows .entry)) (now (columns .entry))) ⌝ }
-    ensures sheet { λ _. ⌜ now (sheet .exit) ≡ writtenBy prime (now (second .entry)) (now (rows .entry)) (now (columns .entry)) «second_arrays» (writtenBy prime (now (first .entry)) (now (rows .entry)) (now (columns .entry)) «first_arrays» (now (sheet .entry))) ⌝ }
+    ensures answer { λ r. ⌜
+        comparedAnswer r ≡
+        likenessAt prime (now (first .entry)) (now (second .entry)) (now (rows .entry)) (now (columns .entry)) ⌝ }
+    ensures sheet { λ _. ⌜
+        now (sheet .exit) ≡
+        bothWritten prime (now (first .entry)) (now (second .entry)) (now (rows .entry)) (now (columns .entry)) «first_arrays»
+        «second_arrays» (now (sheet .entry)) ⌝ }
 {
     let first_saved = work::saved(first, first_starts, first_arrays);
     let second_saved = work::saved(second, second_starts, second_arrays);
@@ -86,8 +92,13 @@ fn by_sides(
     requires { ⌜ Evaluable prime (now first) (now «first_starts») «first_arrays» (now rows) (now columns) (length (now sheet)) ⌝ }
     requires { ⌜ Evaluable prime (now second) (now «second_starts») «second_arrays» (now rows) (now columns) (length (now sheet)) ⌝ }
     requires { ⌜ Ready singles (now rowwise) × Ready singles (now columnwise) ⌝ }
-    ensures answer { λ r. ⌜ comparedAnswer r ≡ likeness prime (lastValues prime (now (first .entry)) (now (rows .entry)) (now (columns .entry))) (lastValues prime (now (second .entry)) (now (rows .entry)) (now (columns .entry))) ⌝ }
-    ensures sheet { λ _. ⌜ now (sheet .exit) ≡ writtenBy prime (now (second .entry)) (now (rows .entry)) (now (columns .entry)) «second_arrays» (writtenBy prime (now (first .entry)) (now (rows .entry)) (now (columns .entry)) «first_arrays» (now (sheet .entry))) ⌝ }
+    ensures answer { λ r. ⌜
+        comparedAnswer r ≡
+        likenessAt prime (now (first .entry)) (now (second .entry)) (now (rows .entry)) (now (columns .entry)) ⌝ }
+    ensures sheet { λ _. ⌜
+        now (sheet .exit) ≡
+        bothWritten prime (now (first .entry)) (now (second .entry)) (now (rows .entry)) (now (columns .entry)) «first_arrays»
+        «second_arrays» (now (sheet .entry)) ⌝ }
 {
     let most = Shape {
         rows: rows.len() as u8,

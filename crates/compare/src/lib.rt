@@ -1,23 +1,16 @@
 // Two keys compared at a point (01, 'Comparing two keys').
 mod both;
-pub mod judge;
 
 use key::Checked;
 use refusal::Refusal;
+use refusal::Which;
 ghost use mathlib.Core.Path.{_≡_};
 ghost use Prim.Native.Nat.{min, _/_, _≤_};
 ghost use lib.ListN.{length};
 ghost use Rattle.field.specs.Scalars.{prime};
-ghost use Rattle.compare.specs.AgreementBound.{Agreement};
-ghost use Rattle.compare.specs.Compare.{comparedAnswer, compared};
-
-// The key that a refusal is about.
-pub enum Which {
-    First,
-    Second,
-    // The two together, the point or the sheet.
-    Neither,
-}
+ghost use Rattle.comparison.specs.AgreementBound.{Agreement};
+ghost use Rattle.comparison.specs.Compare.{compared};
+ghost use Rattle.compare.specs.Answer.{comparedAnswer};
 
 // What compare answers.
 pub enum Compared {
@@ -30,8 +23,10 @@ pub enum Compared {
 }
 
 // Whether two keys of one shape have the same A, B and C at a point. The sheet ends as if the first key and then the second had
-// been evaluated on it, and a refused call leaves it. The clause `agreement` is demand 3: at how many points at most keys that differ
-// are found the same, and that keys which do not differ are found the same at every point.
+// been evaluated on it, and a refused call leaves it.
+//
+// Demand 3 is `answer` and `agreement` together: `agreement` says of what `compared` answers at how many points at most keys that differ are
+// the same, and that keys which do not differ are the same at every point; `answer` says that the call answers what `compared` does.
 pub fn compare(
     first: &[u8],
     second: &[u8],
@@ -39,8 +34,14 @@ pub fn compare(
     columns: &[u32],
     sheet: &mut [u32],
 ) -> Compared
-    ensures answer { λ r. ⌜ comparedAnswer r ≡ compared prime (now (first .entry)) (now (second .entry)) (now (rows .entry)) (now (columns .entry)) (now (sheet .entry)) .answer ⌝ }
-    ensures sheet { λ _. ⌜ now (sheet .exit) ≡ compared prime (now (first .entry)) (now (second .entry)) (now (rows .entry)) (now (columns .entry)) (now (sheet .entry)) .sheet ⌝ }
+    ensures answer { λ r. ⌜
+        comparedAnswer r ≡
+        compared prime (now (first .entry)) (now (second .entry)) (now (rows .entry)) (now (columns .entry)) (now (sheet .entry))
+        .answer ⌝ }
+    ensures sheet { λ _. ⌜
+        now (sheet .exit) ≡
+        compared prime (now (first .entry)) (now (second .entry)) (now (rows .entry)) (now (columns .entry)) (now (sheet .entry))
+        .sheet ⌝ }
     ensures agreement { λ _. ⌜ Agreement prime (now (first .entry)) (now (second .entry)) ⌝ }
 {
     if first.len() < key::SHORT {
@@ -84,8 +85,14 @@ fn by_tables(
 ) -> Compared
     requires { ⌜ min 1024 (length (now first) / 3) ≤ length (now «first_starts») ⌝ }
     requires { ⌜ min 1024 (length (now second) / 3) ≤ length (now «second_starts») ⌝ }
-    ensures answer { λ r. ⌜ comparedAnswer r ≡ compared prime (now (first .entry)) (now (second .entry)) (now (rows .entry)) (now (columns .entry)) (now (sheet .entry)) .answer ⌝ }
-    ensures sheet { λ _. ⌜ now (sheet .exit) ≡ compared prime (now (first .entry)) (now (second .entry)) (now (rows .entry)) (now (columns .entry)) (now (sheet .entry)) .sheet ⌝ }
+    ensures answer { λ r. ⌜
+        comparedAnswer r ≡
+        compared prime (now (first .entry)) (now (second .entry)) (now (rows .entry)) (now (columns .entry)) (now (sheet .entry))
+        .answer ⌝ }
+    ensures sheet { λ _. ⌜
+        now (sheet .exit) ≡
+        compared prime (now (first .entry)) (now (second .entry)) (now (rows .entry)) (now (columns .entry)) (now (sheet .entry))
+        .sheet ⌝ }
 {
     let first_counts = match key::index(first, first_starts) {
         Checked::Refused(refusal) => return Compared::Refused(Which::First, refusal),

@@ -1,4 +1,5 @@
--- The agreement bound where q is p², in plain numbers too: a point has 2·(n + n') numbers, of which the first 2·n are the rows'.
+-- The agreement bound where q is p², in plain numbers too.
+-- A point has 2·(n + n') numbers, of which the first 2·n are the rows'.
 use Prim.Native.Nat.{ℕ, _+_, _-_, _*_, _^_, _≤_}
 use mathlib.Core.List.{List}
 use mathlib.Core.Logic.{_⊎_}
@@ -7,10 +8,10 @@ use lib.ListN.{length, take, drop}
 use Rattle.algebra.specs.Points.{countPoints, Below}
 use Rattle.field.specs.Fp.{p}
 use Rattle.quadratic.specs.Quadratic.{quadratic}
-use Rattle.quadratic.proofs.Quadratic.{quadratic-lawful}
-use Rattle.compare.specs.AgreementBound.{AcceptedKey, Sheets, isSame, DifferInCell, Agreement}
-use Rattle.compare.specs.Compare.{same, different, compared}
-use Rattle.compare.proofs.Agreement.{agreement}
+use Rattle.quadratic.proofs.QuadraticLawful.{quadratic-lawful}
+use Rattle.comparison.specs.AgreementBound.{AcceptedKey, Sheets, isSame, DifferInCell, Agreement}
+use Rattle.comparison.specs.Compare.{same, different, compared}
+use Rattle.comparison.proofs.Agreement.{agreement}
 
 pub quadratic-agreement : (first second : List ℕ) → Agreement quadratic first second
 quadratic-agreement = agreement quadratic quadratic-lawful

@@ -1,8 +1,8 @@
 // The passes over two keys at one point of the field of p² elements, whose sides are prepared once for both.
 use compare::Compared;
-use evaluate::work;
 use evaluate_quadratic::Values;
 use evaluate_quadratic::pass;
+use indexed::work;
 use quadratic::Fp2;
 use records::Shape;
 use weights::table::LIMB_PLACES;
@@ -14,10 +14,10 @@ ghost use Rattle.quadratic.specs.Parts.{parts};
 ghost use Rattle.quadratic.specs.Quadratic.{quadratic};
 ghost use Rattle.weights.specs.Side.{Ready};
 ghost use Rattle.weights_quadratic.specs.Packed.{packed};
-ghost use Rattle.evaluate.specs.Evaluate.{lastValues};
-ghost use Rattle.evaluate_quadratic.specs.Evaluate.{valuesIn};
-ghost use Rattle.compare.specs.Compare.{comparedAnswer, likeness};
-ghost use Rattle.compare.specs.Inner.{Evaluable, writtenBy};
+ghost use Rattle.comparison.specs.Compare.{likeness};
+ghost use Rattle.comparison.specs.Inner.{Evaluable, likenessAt, bothWritten};
+ghost use Rattle.compare.specs.Answer.{comparedAnswer};
+ghost use Rattle.evaluate_quadratic.specs.Answer.{valuesIn};
 ghost use Rattle.compare_quadratic.specs.Inner.{Told};
 
 // Whether the last arrays' three numbers are equal at a point. The sheet ends with those of the second key's arrays over those of the
@@ -36,8 +36,13 @@ pub(crate) fn run(
 ) -> Compared
     requires { ⌜ Evaluable quadratic (now first) (now «first_starts») «first_arrays» (now rows) (now columns) (length (now sheet)) ⌝ }
     requires { ⌜ Evaluable quadratic (now second) (now «second_starts») «second_arrays» (now rows) (now columns) (length (now sheet)) ⌝ }
-    ensures answer { λ r. ⌜ comparedAnswer r ≡ likeness quadratic (lastValues quadratic (now (first .entry)) (now (rows .entry)) (now (columns .entry))) (lastValues quadratic (now (second .entry)) (now (rows .entry)) (now (columns .entry))) ⌝ }
-    ensures sheet { λ _. ⌜ now (sheet .exit) ≡ writtenBy quadratic (now (second .entry)) (now (rows .entry)) (now (columns .entry)) «second_arrays» (writtenBy quadratic (now (first .entry)) (now (rows .entry)) (now (columns .entry)) «first_arrays» (now (sheet .entry))) ⌝ }
+    ensures answer { λ r. ⌜
+        comparedAnswer r ≡
+        likenessAt quadratic (now (first .entry)) (now (second .entry)) (now (rows .entry)) (now (columns .entry)) ⌝ }
+    ensures sheet { λ _. ⌜
+        now (sheet .exit) ≡
+        bothWritten quadratic (now (first .entry)) (now (second .entry)) (now (rows .entry)) (now (columns .entry)) «first_arrays»
+        «second_arrays» (now (sheet .entry)) ⌝ }
 {
     let first_saved = work::saved(first, first_starts, first_arrays);
     let second_saved = work::saved(second, second_starts, second_arrays);
@@ -95,8 +100,13 @@ fn by_sides(
     requires { ⌜ Evaluable quadratic (now first) (now «first_starts») «first_arrays» (now rows) (now columns) (length (now sheet)) ⌝ }
     requires { ⌜ Evaluable quadratic (now second) (now «second_starts») «second_arrays» (now rows) (now columns) (length (now sheet)) ⌝ }
     requires { ⌜ Ready packed (now rowwise) × Ready packed (now columnwise) ⌝ }
-    ensures answer { λ r. ⌜ comparedAnswer r ≡ likeness quadratic (lastValues quadratic (now (first .entry)) (now (rows .entry)) (now (columns .entry))) (lastValues quadratic (now (second .entry)) (now (rows .entry)) (now (columns .entry))) ⌝ }
-    ensures sheet { λ _. ⌜ now (sheet .exit) ≡ writtenBy quadratic (now (second .entry)) (now (rows .entry)) (now (columns .entry)) «second_arrays» (writtenBy quadratic (now (first .entry)) (now (rows .entry)) (now (columns .entry)) «first_arrays» (now (sheet .entry))) ⌝ }
+    ensures answer { λ r. ⌜
+        comparedAnswer r ≡
+        likenessAt quadratic (now (first .entry)) (now (second .entry)) (now (rows .entry)) (now (columns .entry)) ⌝ }
+    ensures sheet { λ _. ⌜
+        now (sheet .exit) ≡
+        bothWritten quadratic (now (first .entry)) (now (second .entry)) (now (rows .entry)) (now (columns .entry)) «first_arrays»
+        «second_arrays» (now (sheet .entry)) ⌝ }
 {
     let most = Shape {
         rows: (rows.len() / 2) as u8,

@@ -2,19 +2,19 @@
 mod both;
 
 use compare::Compared;
-use compare::Which;
-use compare::judge;
 use key::Checked;
+use refusal::Which;
 ghost use mathlib.Core.Path.{_≡_};
 ghost use Prim.Native.Nat.{min, _/_, _≤_};
 ghost use lib.ListN.{length};
 ghost use Rattle.quadratic.specs.Quadratic.{quadratic};
-ghost use Rattle.compare.specs.AgreementBound.{Agreement};
-ghost use Rattle.compare.specs.Compare.{comparedAnswer, compared};
+ghost use Rattle.comparison.specs.AgreementBound.{Agreement};
+ghost use Rattle.comparison.specs.Compare.{compared};
+ghost use Rattle.compare.specs.Answer.{comparedAnswer};
 
 // Whether two keys of one shape have the same A, B and C at a point, two numbers a coordinate, u first. The sheet ends as if the first key
-// and then the second had been evaluated on it, and a refused call leaves it. The clause `agreement` is the agreement bound where q is p²:
-// at how many points at most keys that differ are found the same, and that keys which do not differ are found the same at every point.
+// and then the second had been evaluated on it, and a refused call leaves it. `answer` and `agreement` together are the agreement bound of
+// this call where q is p², as they are demand 3 for `compare::compare`.
 pub fn compare(
     first: &[u8],
     second: &[u8],
@@ -22,8 +22,14 @@ pub fn compare(
     columns: &[u32],
     sheet: &mut [u32],
 ) -> Compared
-    ensures answer { λ r. ⌜ comparedAnswer r ≡ compared quadratic (now (first .entry)) (now (second .entry)) (now (rows .entry)) (now (columns .entry)) (now (sheet .entry)) .answer ⌝ }
-    ensures sheet { λ _. ⌜ now (sheet .exit) ≡ compared quadratic (now (first .entry)) (now (second .entry)) (now (rows .entry)) (now (columns .entry)) (now (sheet .entry)) .sheet ⌝ }
+    ensures answer { λ r. ⌜
+        comparedAnswer r ≡
+        compared quadratic (now (first .entry)) (now (second .entry)) (now (rows .entry)) (now (columns .entry))
+        (now (sheet .entry)) .answer ⌝ }
+    ensures sheet { λ _. ⌜
+        now (sheet .exit) ≡
+        compared quadratic (now (first .entry)) (now (second .entry)) (now (rows .entry)) (now (columns .entry))
+        (now (sheet .entry)) .sheet ⌝ }
     ensures agreement { λ _. ⌜ Agreement quadratic (now (first .entry)) (now (second .entry)) ⌝ }
 {
     if first.len() < key::SHORT {
@@ -67,8 +73,14 @@ fn by_tables(
 ) -> Compared
     requires { ⌜ min 1024 (length (now first) / 3) ≤ length (now «first_starts») ⌝ }
     requires { ⌜ min 1024 (length (now second) / 3) ≤ length (now «second_starts») ⌝ }
-    ensures answer { λ r. ⌜ comparedAnswer r ≡ compared quadratic (now (first .entry)) (now (second .entry)) (now (rows .entry)) (now (columns .entry)) (now (sheet .entry)) .answer ⌝ }
-    ensures sheet { λ _. ⌜ now (sheet .exit) ≡ compared quadratic (now (first .entry)) (now (second .entry)) (now (rows .entry)) (now (columns .entry)) (now (sheet .entry)) .sheet ⌝ }
+    ensures answer { λ r. ⌜
+        comparedAnswer r ≡
+        compared quadratic (now (first .entry)) (now (second .entry)) (now (rows .entry)) (now (columns .entry))
+        (now (sheet .entry)) .answer ⌝ }
+    ensures sheet { λ _. ⌜
+        now (sheet .exit) ≡
+        compared quadratic (now (first .entry)) (now (second .entry)) (now (rows .entry)) (now (columns .entry))
+        (now (sheet .entry)) .sheet ⌝ }
 {
     let first_counts = match key::index(first, first_starts) {
         Checked::Refused(refusal) => return Compared::Refused(Which::First, refusal),

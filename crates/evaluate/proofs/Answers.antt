@@ -2,7 +2,7 @@
 use mathlib.Core.Path.{_≡_, sym, ap}
 use Rattle.refusal.proofs.Outcomes.{given-injective, refusal-injective, given-not-refused}
 use Rattle.arrays.specs.Arrays.{Values}
-use Rattle.evaluate.specs.Evaluate.{valuesIn, evaluatedOutcome}
+use Rattle.evaluate.specs.Answer.{valuesIn, evaluatedOutcome}
 use Rattle.evaluate.specs.declared.Evaluated.{Evaluated}
 use Rattle.evaluate.specs.declared.Values.{Values as Answered}
 

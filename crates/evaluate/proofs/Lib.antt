@@ -1,23 +1,6 @@
-pub mod FirstOver
-pub mod Judgements
-pub mod Filling
-pub mod Sheets
-pub mod Words
-pub mod Indexing
-pub mod Sums
-pub mod Adding
-pub mod Added
-pub mod Turns
-pub mod Passing
-pub mod Extended
-pub mod Passed
-pub mod Prepared
-pub mod Admission
-pub mod InTurn
-pub mod Concluded
-pub mod AtPlace
+-- Sums that are not reduced: how large they grow, and what three products added to them leave of them modulo p.
+pub mod UnreducedSums
+-- A side's coordinates as they are filled with bits, one a turn.
+pub mod CoordinatesFromBits
+-- An answer is determined by what it says.
 pub mod Answers
-pub mod PlaceByPlace
-pub mod CellSheet
-pub mod Examples
-pub mod Embedded

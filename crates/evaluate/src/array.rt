@@ -1,4 +1,4 @@
-// One array of an accepted key: its shape, and its values from those of the arrays before it.
+// One array of an accepted key: its values, from those of the arrays before it.
 use crate::Values;
 use crate::entry;
 use crate::entry::Sums;
@@ -7,26 +7,17 @@ use records::Shape;
 use records::read;
 use weights::side;
 ghost use mathlib.Core.Path.{_≡_};
-ghost use mathlib.Core.List.{List, [], _∷_, _++_};
+ghost use mathlib.Core.List.{List};
 ghost use Prim.Native.Nat.{ℕ, _+_, _-_, _<_};
-ghost use lib.ListN.{length, getD};
+ghost use lib.ListN.{length};
 ghost use Rattle.field.specs.Scalars.{prime};
 ghost use Rattle.arrays.specs.Arrays.{arrayAt};
-ghost use Rattle.weights.specs.Side.{prepared};
 ghost use Rattle.weights.specs.Words.{singles};
-ghost use Rattle.key.specs.Index.{startsOf};
 ghost use Rattle.key.specs.KeyArrays.{keyArrays};
-ghost use Rattle.evaluate.specs.Evaluate.{valuesIn};
-ghost use Rattle.evaluate.specs.Inner.{Indexed, Sides, ReachedIn, Sparse, Recursive, Filled, reducedIn, shapeAt, nextValues};
-
-// The shape of array i: the two bytes behind its opening's kind. Inner: the key is accepted and indexed, and has such an array.
-pub fn shape(key: &[u8], starts: &[u16], i: usize) -> Shape
-    requires { ⌜ Indexed (now key) (now starts) ⌝ }
-    requires { ⌜ i < length (keyArrays (now key)) ⌝ }
-    ensures { λ r. ⌜ r ≡ shapeAt (keyArrays (now (key .entry))) i ⌝ }
-{
-    rules::shape_at(key, starts, i)
-}
+ghost use Rattle.key.specs.Indexed.{Indexed, Sparse, Recursive};
+ghost use Rattle.evaluation.specs.Inner.{Sides, ReachedIn, Filled, nextBy};
+ghost use Rattle.evaluate.specs.Answer.{valuesIn};
+ghost use Rattle.evaluate.specs.Inner.{reducedIn};
 
 // The values of array i, in a key that has so many arrays: the sums of what its entries add. The two sides of the point have as many
 // coordinates as `most` has bits. Inner: the key is accepted and indexed, the tables are ones for it, and the values of the arrays
@@ -46,9 +37,11 @@ pub(crate) fn values(
     requires { ⌜ i < arrays ⌝ }
     requires { ⌜ Sides singles (now key) most (now rowwise) (now columnwise) ⌝ }
     requires { ⌜ Filled prime i (now sheet) ⌝ }
-    ensures { λ r. ⌜ valuesIn r ≡ nextValues prime (keyArrays (now (key .entry))) (prepared singles (now (rowwise .entry))) (prepared singles (now (columnwise .entry))) (now (sheet .entry)) i ⌝ }
+    ensures { λ r. ⌜
+        valuesIn r ≡
+        nextBy singles (now (key .entry)) (now (rowwise .entry)) (now (columnwise .entry)) (now (sheet .entry)) i ⌝ }
 {
-    let own = shape(key, starts, i);
+    let own = indexed::shape(key, starts, i);
     let reached = Shape {
         rows: side::reach(own.rows, most.rows, rowwise),
         columns: side::reach(own.columns, most.columns, columnwise),
@@ -77,7 +70,9 @@ fn total(
     requires { ⌜ i < arrays ⌝ }
     requires { ⌜ ReachedIn singles (keyArrays (now key)) i reached (now rowwise) (now columnwise) ⌝ }
     requires { ⌜ Filled prime i (now sheet) ⌝ }
-    ensures { λ r. ⌜ reducedIn r ≡ nextValues prime (keyArrays (now (key .entry))) (prepared singles (now (rowwise .entry))) (prepared singles (now (columnwise .entry))) (now (sheet .entry)) i ⌝ }
+    ensures { λ r. ⌜
+        reducedIn r ≡
+        nextBy singles (now (key .entry)) (now (rowwise .entry)) (now (columnwise .entry)) (now (sheet .entry)) i ⌝ }
 {
     let opening = starts[i] as usize;
     if key[opening] == 2 {
@@ -102,9 +97,10 @@ fn cells(
     requires { ⌜ i < arrays ⌝ }
     requires { ⌜ Sparse (arrayAt (keyArrays (now key)) i .entries) ⌝ }
     requires { ⌜ ReachedIn singles (keyArrays (now key)) i reached (now rowwise) (now columnwise) ⌝ }
-    ensures { λ r. ⌜ ((sheet : List ℕ) → reducedIn r ≡ nextValues prime (keyArrays (now (key .entry))) (prepared singles (now (rowwise .entry))) (prepared singles (now (columnwise .entry))) sheet i) ⌝ }
+    ensures { λ r. ⌜
+        ((sheet : List ℕ) → reducedIn r ≡ nextBy singles (now (key .entry)) (now (rowwise .entry)) (now (columnwise .entry)) sheet i) ⌝ }
 {
-    let to = behind(key, starts, arrays, i);
+    let to = indexed::behind(key, starts, arrays, i);
     let mut sums = Sums { a: 0, b: 0, c: 0 };
     let mut at = starts[i] as usize + 3;
     while at < to {
@@ -132,9 +128,11 @@ fn calls(
     requires { ⌜ Recursive (arrayAt (keyArrays (now key)) i .entries) ⌝ }
     requires { ⌜ ReachedIn singles (keyArrays (now key)) i reached (now rowwise) (now columnwise) ⌝ }
     requires { ⌜ Filled prime i (now sheet) ⌝ }
-    ensures { λ r. ⌜ reducedIn r ≡ nextValues prime (keyArrays (now (key .entry))) (prepared singles (now (rowwise .entry))) (prepared singles (now (columnwise .entry))) (now (sheet .entry)) i ⌝ }
+    ensures { λ r. ⌜
+        reducedIn r ≡
+        nextBy singles (now (key .entry)) (now (rowwise .entry)) (now (columnwise .entry)) (now (sheet .entry)) i ⌝ }
 {
-    let to = behind(key, starts, arrays, i);
+    let to = indexed::behind(key, starts, arrays, i);
     let mut sums = Sums { a: 0, b: 0, c: 0 };
     let mut at = starts[i] as usize + 3;
     while at < to {
@@ -143,20 +141,4 @@ fn calls(
         at = at + 11;
     }
     sums
-}
-
-// The offset behind array i's entries, in a key that has so many arrays: that of the next opening or of the end. Inner: the key
-// is accepted and indexed, and has such an array.
-pub fn behind(key: &[u8], starts: &[u16], arrays: usize, i: usize) -> usize
-    requires { ⌜ Indexed (now key) (now starts) ⌝ }
-    requires { ⌜ arrays ≡ length (keyArrays (now key)) ⌝ }
-    requires { ⌜ i < arrays ⌝ }
-    ensures { λ r. ⌜ r ≡ getD (startsOf (now (key .entry)) ++ ((length (now (key .entry)) - 1) ∷ [])) (i + 1) 0 ⌝ }
-{
-    let next = i + 1;
-    if next < arrays {
-        starts[next] as usize
-    } else {
-        key.len() - 1
-    }
 }

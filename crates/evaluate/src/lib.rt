@@ -1,11 +1,9 @@
 // An accepted key evaluated at a point (01, 'Dense form and evaluation'), and single cells of its last array.
-pub mod array;
+mod array;
 mod entry;
-pub mod judge;
 pub mod pass;
 mod point;
 mod sheet;
-pub mod work;
 
 use field::Fp;
 use key::Checked;
@@ -14,8 +12,9 @@ ghost use mathlib.Core.Path.{_≡_};
 ghost use Prim.Native.Nat.{min, _/_, _≤_};
 ghost use lib.ListN.{length};
 ghost use Rattle.field.specs.Scalars.{prime};
-ghost use Rattle.evaluate.specs.Cell.{celled};
-ghost use Rattle.evaluate.specs.Evaluate.{evaluatedOutcome, evaluated};
+ghost use Rattle.evaluation.specs.Cell.{celled};
+ghost use Rattle.evaluation.specs.Evaluate.{evaluated};
+ghost use Rattle.evaluate.specs.Answer.{evaluatedOutcome};
 
 // The values of A, B and C.
 pub struct Values {
@@ -35,8 +34,12 @@ pub enum Evaluated {
 // The last array's A, B and C at a point: the multilinear extensions of its dense matrices. The sheet then holds every array's
 // three numbers, those of array i from place 3i on; places behind them stay, and a refused call leaves the whole sheet.
 pub fn evaluate(key: &[u8], rows: &[u32], columns: &[u32], sheet: &mut [u32]) -> Evaluated
-    ensures answer { λ r. ⌜ evaluatedOutcome r ≡ evaluated prime (now (key .entry)) (now (rows .entry)) (now (columns .entry)) (now (sheet .entry)) .answer ⌝ }
-    ensures sheet { λ _. ⌜ now (sheet .exit) ≡ evaluated prime (now (key .entry)) (now (rows .entry)) (now (columns .entry)) (now (sheet .entry)) .sheet ⌝ }
+    ensures answer { λ r. ⌜
+        evaluatedOutcome r ≡
+        evaluated prime (now (key .entry)) (now (rows .entry)) (now (columns .entry)) (now (sheet .entry)) .answer ⌝ }
+    ensures sheet { λ _. ⌜
+        now (sheet .exit) ≡
+        evaluated prime (now (key .entry)) (now (rows .entry)) (now (columns .entry)) (now (sheet .entry)) .sheet ⌝ }
 {
     if key.len() < key::SHORT {
         let mut short = [0u16; key::SHORT_ARRAYS];
@@ -58,8 +61,12 @@ fn at_point(
     starts: &mut [u16],
 ) -> Evaluated
     requires { ⌜ min 1024 (length (now key) / 3) ≤ length (now starts) ⌝ }
-    ensures answer { λ r. ⌜ evaluatedOutcome r ≡ evaluated prime (now (key .entry)) (now (rows .entry)) (now (columns .entry)) (now (sheet .entry)) .answer ⌝ }
-    ensures sheet { λ _. ⌜ now (sheet .exit) ≡ evaluated prime (now (key .entry)) (now (rows .entry)) (now (columns .entry)) (now (sheet .entry)) .sheet ⌝ }
+    ensures answer { λ r. ⌜
+        evaluatedOutcome r ≡
+        evaluated prime (now (key .entry)) (now (rows .entry)) (now (columns .entry)) (now (sheet .entry)) .answer ⌝ }
+    ensures sheet { λ _. ⌜
+        now (sheet .exit) ≡
+        evaluated prime (now (key .entry)) (now (rows .entry)) (now (columns .entry)) (now (sheet .entry)) .sheet ⌝ }
 {
     let checked = key::index(&*key, starts);
     let pointed = judge::point(checked, 1, &*rows, &*columns);

@@ -2,19 +2,20 @@
 use crate::Values;
 use crate::array;
 use crate::sheet;
-use crate::work;
+use indexed::work;
 use records::Shape;
 use weights::table;
 ghost use mathlib.Core.Path.{_≡_};
 ghost use Prim.Native.Nat.{_*_, _-_, _<_, _≤_};
 ghost use lib.ListN.{length};
 ghost use Rattle.field.specs.Scalars.{prime};
-ghost use Rattle.weights.specs.Side.{prepared, Ready};
+ghost use Rattle.weights.specs.Side.{Ready};
 ghost use Rattle.weights.specs.Words.{singles};
 ghost use Rattle.key.specs.KeyArrays.{keyArrays};
-ghost use Rattle.evaluate.specs.Evaluate.{valuesIn, valuesAt};
-ghost use Rattle.evaluate.specs.Inner.{Indexed, AtPoint, Sides, Filled, sheetValues, passedValues};
-ghost use Rattle.evaluate.specs.Sheet.{wordsOf, laid};
+ghost use Rattle.key.specs.Indexed.{Indexed};
+ghost use Rattle.judge.specs.Inner.{AtPoint};
+ghost use Rattle.evaluation.specs.Inner.{Sides, Filled, sheetValues, passedBy, writtenBy};
+ghost use Rattle.evaluate.specs.Answer.{valuesIn};
 
 // Writes every array's values on the sheet: the extensions of their dense matrices. The sides of the point are prepared with weights of
 // limbs where these are estimated to save more than they cost (`work`). Inner: the key is accepted and indexed, the point is one for it,
@@ -33,7 +34,9 @@ pub fn run(
     requires { ⌜ arrays ≡ length (keyArrays (now key)) ⌝ }
     requires { ⌜ AtPoint prime (now key) (now rows) (now columns) ⌝ }
     requires { ⌜ 3 * arrays ≤ length (now sheet) ⌝ }
-    ensures { λ _. ⌜ now (sheet .exit) ≡ laid 0 (λ i. wordsOf prime (valuesAt prime (keyArrays (now (key .entry))) (now (rows .entry)) (now (columns .entry)) i)) arrays (now (sheet .entry)) ⌝ }
+    ensures { λ _. ⌜
+        now (sheet .exit) ≡
+        writtenBy prime (now (key .entry)) (now (rows .entry)) (now (columns .entry)) arrays (now (sheet .entry)) ⌝ }
 {
     let saved = work::saved(&*key, &*starts, arrays);
     if work::limbs_pay(saved, rows.len() + columns.len()) {
@@ -80,7 +83,9 @@ fn by_sides(
     requires { ⌜ AtPoint prime (now key) (now rows) (now columns) ⌝ }
     requires { ⌜ 3 * arrays ≤ length (now sheet) ⌝ }
     requires { ⌜ Ready singles (now rowwise) × Ready singles (now columnwise) ⌝ }
-    ensures { λ _. ⌜ now (sheet .exit) ≡ laid 0 (λ i. wordsOf prime (valuesAt prime (keyArrays (now (key .entry))) (now (rows .entry)) (now (columns .entry)) i)) arrays (now (sheet .entry)) ⌝ }
+    ensures { λ _. ⌜
+        now (sheet .exit) ≡
+        writtenBy prime (now (key .entry)) (now (rows .entry)) (now (columns .entry)) arrays (now (sheet .entry)) ⌝ }
 {
     let most = Shape {
         rows: rows.len() as u8,
@@ -106,7 +111,9 @@ pub fn over(
     requires { ⌜ arrays ≡ length (keyArrays (now key)) ⌝ }
     requires { ⌜ Sides singles (now key) most (now rowwise) (now columnwise) ⌝ }
     requires { ⌜ 3 * arrays ≤ length (now sheet) ⌝ }
-    ensures { λ _. ⌜ now (sheet .exit) ≡ laid 0 (λ i. wordsOf prime (passedValues prime (keyArrays (now (key .entry))) (prepared singles (now (rowwise .entry))) (prepared singles (now (columnwise .entry))) i)) arrays (now (sheet .entry)) ⌝ }
+    ensures { λ _. ⌜
+        now (sheet .exit) ≡
+        passedBy singles (now (key .entry)) (now (rowwise .entry)) (now (columnwise .entry)) arrays (now (sheet .entry)) ⌝ }
 {
     for i in 0..arrays {
         let values = array::values(key, starts, arrays, i, most, rowwise, columnwise, sheet);

@@ -2,8 +2,8 @@
 use mathlib.Core.Path.{_≡_, sym, ap}
 use Rattle.refusal.proofs.Outcomes.{given-injective, refusal-injective, given-not-refused}
 use Rattle.quadratic.specs.Quadratic.{quadratic}
-use Rattle.evaluate.specs.Evaluate.{ValuesOf}
-use Rattle.evaluate_quadratic.specs.Evaluate.{valuesIn, evaluatedOutcome}
+use Rattle.evaluation.specs.Evaluate.{ValuesOf}
+use Rattle.evaluate_quadratic.specs.Answer.{valuesIn, evaluatedOutcome}
 use Rattle.evaluate_quadratic.specs.declared.Evaluated.{Evaluated}
 use Rattle.evaluate_quadratic.specs.declared.Values.{Values as Answered}
 

@@ -1,5 +1,10 @@
-pub mod Sums
-pub mod Stores
+-- Sums of elements that are not reduced: how large they grow, and what three products added to them leave of them modulo p.
+pub mod UnreducedSums
+-- Three elements stored one behind the other, two numbers each.
+pub mod StoredElements
+-- At a point with every v zero evaluate answers what it answers over the field of p, as u, with v zero (02, E2).
+pub mod EveryVZero
+-- An answer is determined by what it says.
 pub mod Answers
-pub mod Embedded
+-- Worked examples over the field of p²: a small key evaluated at a point of two parts, and the places of refusals.
 pub mod Examples

@@ -4,7 +4,7 @@ use mathlib.Core.Path.{_≡_}
 use Rattle.quadratic.specs.Quadratic.{quadratic}
 use Rattle.quadratic.specs.Unreduced.{remainders, Under}
 use Rattle.quadratic.specs.declared.unreduced.Unreduced.{Unreduced}
-use Rattle.evaluate.specs.Evaluate.{ValuesOf}
+use Rattle.evaluation.specs.Evaluate.{ValuesOf}
 use Rattle.evaluate_quadratic.specs.declared.entry.Sums.{Sums}
 
 -- the three elements that sums are, which are not reduced yet

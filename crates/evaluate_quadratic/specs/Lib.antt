@@ -1,2 +1,2 @@
-pub mod Evaluate
+pub mod Answer
 pub mod Inner

@@ -2,7 +2,6 @@
 use crate::Values;
 use crate::entry;
 use crate::entry::Sums;
-use evaluate::array;
 use records::Shape;
 use records::read;
 use weights_quadratic::side;
@@ -12,11 +11,11 @@ ghost use Prim.Native.Nat.{ℕ, _<_};
 ghost use lib.ListN.{length};
 ghost use Rattle.quadratic.specs.Quadratic.{quadratic};
 ghost use Rattle.arrays.specs.Arrays.{arrayAt};
-ghost use Rattle.weights.specs.Side.{prepared};
 ghost use Rattle.weights_quadratic.specs.Packed.{packed};
 ghost use Rattle.key.specs.KeyArrays.{keyArrays};
-ghost use Rattle.evaluate.specs.Inner.{Indexed, Sides, ReachedIn, Sparse, Recursive, Filled, nextValues};
-ghost use Rattle.evaluate_quadratic.specs.Evaluate.{valuesIn};
+ghost use Rattle.key.specs.Indexed.{Indexed, Sparse, Recursive};
+ghost use Rattle.evaluation.specs.Inner.{Sides, ReachedIn, Filled, nextBy};
+ghost use Rattle.evaluate_quadratic.specs.Answer.{valuesIn};
 ghost use Rattle.evaluate_quadratic.specs.Inner.{reducedIn};
 
 // The values of array i, in a key that has so many arrays: the sums of what its entries add. The two sides of the point have as many
@@ -37,9 +36,11 @@ pub(crate) fn values(
     requires { ⌜ i < arrays ⌝ }
     requires { ⌜ Sides packed (now key) most (now rowwise) (now columnwise) ⌝ }
     requires { ⌜ Filled quadratic i (now sheet) ⌝ }
-    ensures { λ r. ⌜ valuesIn r ≡ nextValues quadratic (keyArrays (now (key .entry))) (prepared packed (now (rowwise .entry))) (prepared packed (now (columnwise .entry))) (now (sheet .entry)) i ⌝ }
+    ensures { λ r. ⌜
+        valuesIn r ≡
+        nextBy packed (now (key .entry)) (now (rowwise .entry)) (now (columnwise .entry)) (now (sheet .entry)) i ⌝ }
 {
-    let own = array::shape(key, starts, i);
+    let own = indexed::shape(key, starts, i);
     let reached = Shape {
         rows: side::reach(own.rows, most.rows, rowwise),
         columns: side::reach(own.columns, most.columns, columnwise),
@@ -68,7 +69,9 @@ fn total(
     requires { ⌜ i < arrays ⌝ }
     requires { ⌜ ReachedIn packed (keyArrays (now key)) i reached (now rowwise) (now columnwise) ⌝ }
     requires { ⌜ Filled quadratic i (now sheet) ⌝ }
-    ensures { λ r. ⌜ reducedIn r ≡ nextValues quadratic (keyArrays (now (key .entry))) (prepared packed (now (rowwise .entry))) (prepared packed (now (columnwise .entry))) (now (sheet .entry)) i ⌝ }
+    ensures { λ r. ⌜
+        reducedIn r ≡
+        nextBy packed (now (key .entry)) (now (rowwise .entry)) (now (columnwise .entry)) (now (sheet .entry)) i ⌝ }
 {
     let opening = starts[i] as usize;
     if key[opening] == 2 {
@@ -93,9 +96,10 @@ fn cells(
     requires { ⌜ i < arrays ⌝ }
     requires { ⌜ Sparse (arrayAt (keyArrays (now key)) i .entries) ⌝ }
     requires { ⌜ ReachedIn packed (keyArrays (now key)) i reached (now rowwise) (now columnwise) ⌝ }
-    ensures { λ r. ⌜ ((sheet : List ℕ) → reducedIn r ≡ nextValues quadratic (keyArrays (now (key .entry))) (prepared packed (now (rowwise .entry))) (prepared packed (now (columnwise .entry))) sheet i) ⌝ }
+    ensures { λ r. ⌜
+        ((sheet : List ℕ) → reducedIn r ≡ nextBy packed (now (key .entry)) (now (rowwise .entry)) (now (columnwise .entry)) sheet i) ⌝ }
 {
-    let to = array::behind(key, starts, arrays, i);
+    let to = indexed::behind(key, starts, arrays, i);
     let mut sums = entry::nothing();
     let mut at = starts[i] as usize + 3;
     while at < to {
@@ -123,9 +127,11 @@ fn calls(
     requires { ⌜ Recursive (arrayAt (keyArrays (now key)) i .entries) ⌝ }
     requires { ⌜ ReachedIn packed (keyArrays (now key)) i reached (now rowwise) (now columnwise) ⌝ }
     requires { ⌜ Filled quadratic i (now sheet) ⌝ }
-    ensures { λ r. ⌜ reducedIn r ≡ nextValues quadratic (keyArrays (now (key .entry))) (prepared packed (now (rowwise .entry))) (prepared packed (now (columnwise .entry))) (now (sheet .entry)) i ⌝ }
+    ensures { λ r. ⌜
+        reducedIn r ≡
+        nextBy packed (now (key .entry)) (now (rowwise .entry)) (now (columnwise .entry)) (now (sheet .entry)) i ⌝ }
 {
-    let to = array::behind(key, starts, arrays, i);
+    let to = indexed::behind(key, starts, arrays, i);
     let mut sums = entry::nothing();
     let mut at = starts[i] as usize + 3;
     while at < to {

@@ -1,6 +1,5 @@
 // One entry of an array added to sums: a cell or a call.
 use crate::sheet;
-use evaluate::array;
 use field::Fp;
 use quadratic::Fp2;
 use quadratic::unreduced::Unreduced;
@@ -14,10 +13,11 @@ ghost use Rattle.quadratic.specs.Fp2.{fp2};
 ghost use Rattle.quadratic.specs.Parts.{parts, PartsBelow};
 ghost use Rattle.quadratic.specs.Quadratic.{quadratic};
 ghost use Rattle.quadratic.specs.Unreduced.{remainders, Small, Under};
-ghost use Rattle.weights.specs.Side.{prepared, Prepared};
+ghost use Rattle.weights.specs.Side.{Prepared};
 ghost use Rattle.weights_quadratic.specs.Packed.{packed};
 ghost use Rattle.key.specs.KeyArrays.{cellIn, keyArrays};
-ghost use Rattle.evaluate.specs.Inner.{ValuesBelow, Indexed, Called, cellAdded, callAdded};
+ghost use Rattle.key.specs.Indexed.{Indexed};
+ghost use Rattle.evaluation.specs.Inner.{ValuesBelow, Called, cellBy, callBy};
 ghost use Rattle.evaluate_quadratic.specs.Inner.{reducedIn, noSums, Light, Grown, LittleMore};
 
 // Sums of the values of A, B and C, not reduced yet.
@@ -45,7 +45,7 @@ pub(crate) fn cell(sums: Sums, c: Cell, shape: Shape, rowwise: &[u64], columnwis
     requires { ⌜ Prepared packed (shape .rows) (now rowwise) ⌝ }
     requires { ⌜ Prepared packed (shape .columns) (now columnwise) ⌝ }
     requires { ⌜ Light sums ⌝ }
-    ensures { λ r. ⌜ Grown sums (cellAdded quadratic (prepared packed (now (rowwise .entry))) (prepared packed (now (columnwise .entry))) (shape .rows) (shape .columns) (reducedIn sums) c) r ⌝ }
+    ensures { λ r. ⌜ Grown sums (cellBy packed (now (rowwise .entry)) (now (columnwise .entry)) shape (reducedIn sums) c) r ⌝ }
 {
     let row_weight = side::weigh(c.row, rowwise, shape.rows as usize);
     let column_weight = side::weigh(c.column, columnwise, shape.columns as usize);
@@ -74,10 +74,12 @@ pub(crate) fn call(
     requires { ⌜ Prepared packed (shape .rows) (now rowwise) ⌝ }
     requires { ⌜ Prepared packed (shape .columns) (now columnwise) ⌝ }
     requires { ⌜ Light sums ⌝ }
-    ensures { λ r. ⌜ Grown sums (callAdded quadratic (keyArrays (now (key .entry))) (prepared packed (now (rowwise .entry))) (prepared packed (now (columnwise .entry))) (now (sheet .entry)) (shape .rows) (shape .columns) (reducedIn sums) c) r ⌝ }
+    ensures { λ r. ⌜
+        Grown sums
+        (callBy packed (now (key .entry)) (now (rowwise .entry)) (now (columnwise .entry)) (now (sheet .entry)) shape (reducedIn sums) c) r ⌝ }
 {
     let id = c.id as usize;
-    let called = array::shape(key, starts, id);
+    let called = indexed::shape(key, starts, id);
     let values = sheet::values(sheet, id);
     let row_weight = side::factor(c.down, rowwise, called.rows as usize, shape.rows as usize);
     let column_weight = side::factor(

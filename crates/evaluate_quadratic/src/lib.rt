@@ -4,7 +4,6 @@ mod entry;
 pub mod pass;
 mod sheet;
 
-use evaluate::judge;
 use key::Checked;
 use quadratic::Fp2;
 use refusal::Refusal;
@@ -12,8 +11,8 @@ ghost use mathlib.Core.Path.{_≡_};
 ghost use Prim.Native.Nat.{min, _/_, _≤_};
 ghost use lib.ListN.{length};
 ghost use Rattle.quadratic.specs.Quadratic.{quadratic};
-ghost use Rattle.evaluate.specs.Evaluate.{evaluated};
-ghost use Rattle.evaluate_quadratic.specs.Evaluate.{evaluatedOutcome};
+ghost use Rattle.evaluation.specs.Evaluate.{evaluated};
+ghost use Rattle.evaluate_quadratic.specs.Answer.{evaluatedOutcome};
 
 // The values of A, B and C.
 pub struct Values {
@@ -34,8 +33,12 @@ pub enum Evaluated {
 // then holds every array's six numbers, those of array i from place 6i on, A, B and C in turn, u before v; places behind them stay, and a
 // refused call leaves the whole sheet.
 pub fn evaluate(key: &[u8], rows: &[u32], columns: &[u32], sheet: &mut [u32]) -> Evaluated
-    ensures answer { λ r. ⌜ evaluatedOutcome r ≡ evaluated quadratic (now (key .entry)) (now (rows .entry)) (now (columns .entry)) (now (sheet .entry)) .answer ⌝ }
-    ensures sheet { λ _. ⌜ now (sheet .exit) ≡ evaluated quadratic (now (key .entry)) (now (rows .entry)) (now (columns .entry)) (now (sheet .entry)) .sheet ⌝ }
+    ensures answer { λ r. ⌜
+        evaluatedOutcome r ≡
+        evaluated quadratic (now (key .entry)) (now (rows .entry)) (now (columns .entry)) (now (sheet .entry)) .answer ⌝ }
+    ensures sheet { λ _. ⌜
+        now (sheet .exit) ≡
+        evaluated quadratic (now (key .entry)) (now (rows .entry)) (now (columns .entry)) (now (sheet .entry)) .sheet ⌝ }
 {
     if key.len() < key::SHORT {
         let mut short = [0u16; key::SHORT_ARRAYS];
@@ -54,8 +57,12 @@ fn at_point(
     starts: &mut [u16],
 ) -> Evaluated
     requires { ⌜ min 1024 (length (now key) / 3) ≤ length (now starts) ⌝ }
-    ensures answer { λ r. ⌜ evaluatedOutcome r ≡ evaluated quadratic (now (key .entry)) (now (rows .entry)) (now (columns .entry)) (now (sheet .entry)) .answer ⌝ }
-    ensures sheet { λ _. ⌜ now (sheet .exit) ≡ evaluated quadratic (now (key .entry)) (now (rows .entry)) (now (columns .entry)) (now (sheet .entry)) .sheet ⌝ }
+    ensures answer { λ r. ⌜
+        evaluatedOutcome r ≡
+        evaluated quadratic (now (key .entry)) (now (rows .entry)) (now (columns .entry)) (now (sheet .entry)) .answer ⌝ }
+    ensures sheet { λ _. ⌜
+        now (sheet .exit) ≡
+        evaluated quadratic (now (key .entry)) (now (rows .entry)) (now (columns .entry)) (now (sheet .entry)) .sheet ⌝ }
 {
     let checked = key::index(&*key, starts);
     let pointed = judge::point(checked, 2, &*rows, &*columns);

@@ -2,7 +2,7 @@
 use crate::Values;
 use crate::array;
 use crate::sheet;
-use evaluate::work;
+use indexed::work;
 use records::Shape;
 use weights::table::LIMB_PLACES;
 use weights::table::PLACES;
@@ -11,13 +11,13 @@ ghost use mathlib.Core.Path.{_≡_};
 ghost use Prim.Native.Nat.{_*_, _-_, _<_, _≤_};
 ghost use lib.ListN.{length};
 ghost use Rattle.quadratic.specs.Quadratic.{quadratic};
-ghost use Rattle.weights.specs.Side.{prepared, Ready};
+ghost use Rattle.weights.specs.Side.{Ready};
 ghost use Rattle.weights_quadratic.specs.Packed.{packed};
 ghost use Rattle.key.specs.KeyArrays.{keyArrays};
-ghost use Rattle.evaluate.specs.Evaluate.{valuesAt};
-ghost use Rattle.evaluate.specs.Inner.{Indexed, AtPoint, Sides, Filled, sheetValues, passedValues};
-ghost use Rattle.evaluate.specs.Sheet.{wordsOf, laid};
-ghost use Rattle.evaluate_quadratic.specs.Evaluate.{valuesIn};
+ghost use Rattle.key.specs.Indexed.{Indexed};
+ghost use Rattle.judge.specs.Inner.{AtPoint};
+ghost use Rattle.evaluation.specs.Inner.{Sides, Filled, sheetValues, passedBy, writtenBy};
+ghost use Rattle.evaluate_quadratic.specs.Answer.{valuesIn};
 
 // Writes every array's values on the sheet: the extensions of their dense matrices. The sides of the point are prepared with weights of
 // limbs where these are estimated to save more than they cost (`work`). Inner: the key is accepted and indexed, the point is one for it,
@@ -36,7 +36,9 @@ pub(crate) fn run(
     requires { ⌜ arrays ≡ length (keyArrays (now key)) ⌝ }
     requires { ⌜ AtPoint quadratic (now key) (now rows) (now columns) ⌝ }
     requires { ⌜ 6 * arrays ≤ length (now sheet) ⌝ }
-    ensures { λ _. ⌜ now (sheet .exit) ≡ laid 0 (λ i. wordsOf quadratic (valuesAt quadratic (keyArrays (now (key .entry))) (now (rows .entry)) (now (columns .entry)) i)) arrays (now (sheet .entry)) ⌝ }
+    ensures { λ _. ⌜
+        now (sheet .exit) ≡
+        writtenBy quadratic (now (key .entry)) (now (rows .entry)) (now (columns .entry)) arrays (now (sheet .entry)) ⌝ }
 {
     let saved = work::saved(&*key, &*starts, arrays);
     if work::limbs_pay(saved, rows.len() / 2 + columns.len() / 2) {
@@ -83,7 +85,9 @@ fn by_sides(
     requires { ⌜ AtPoint quadratic (now key) (now rows) (now columns) ⌝ }
     requires { ⌜ 6 * arrays ≤ length (now sheet) ⌝ }
     requires { ⌜ Ready packed (now rowwise) × Ready packed (now columnwise) ⌝ }
-    ensures { λ _. ⌜ now (sheet .exit) ≡ laid 0 (λ i. wordsOf quadratic (valuesAt quadratic (keyArrays (now (key .entry))) (now (rows .entry)) (now (columns .entry)) i)) arrays (now (sheet .entry)) ⌝ }
+    ensures { λ _. ⌜
+        now (sheet .exit) ≡
+        writtenBy quadratic (now (key .entry)) (now (rows .entry)) (now (columns .entry)) arrays (now (sheet .entry)) ⌝ }
 {
     let most = Shape {
         rows: (rows.len() / 2) as u8,
@@ -109,7 +113,9 @@ pub fn over(
     requires { ⌜ arrays ≡ length (keyArrays (now key)) ⌝ }
     requires { ⌜ Sides packed (now key) most (now rowwise) (now columnwise) ⌝ }
     requires { ⌜ 6 * arrays ≤ length (now sheet) ⌝ }
-    ensures { λ _. ⌜ now (sheet .exit) ≡ laid 0 (λ i. wordsOf quadratic (passedValues quadratic (keyArrays (now (key .entry))) (prepared packed (now (rowwise .entry))) (prepared packed (now (columnwise .entry))) i)) arrays (now (sheet .entry)) ⌝ }
+    ensures { λ _. ⌜
+        now (sheet .exit) ≡
+        passedBy packed (now (key .entry)) (now (rowwise .entry)) (now (columnwise .entry)) arrays (now (sheet .entry)) ⌝ }
 {
     for i in 0..arrays {
         let values = array::values(key, starts, arrays, i, most, rowwise, columnwise, sheet);

@@ -6,9 +6,9 @@ ghost use Prim.Native.Nat.{suc, _*_, _≤_};
 ghost use lib.ListN.{length};
 ghost use lib.Seq.{sets};
 ghost use Rattle.quadratic.specs.Quadratic.{quadratic};
-ghost use Rattle.evaluate.specs.Inner.{ValuesBelow, sheetValues};
-ghost use Rattle.evaluate.specs.Sheet.{wordsOf};
-ghost use Rattle.evaluate_quadratic.specs.Evaluate.{valuesIn};
+ghost use Rattle.evaluation.specs.Inner.{ValuesBelow, sheetValues};
+ghost use Rattle.evaluation.specs.Sheet.{wordsOf};
+ghost use Rattle.evaluate_quadratic.specs.Answer.{valuesIn};
 
 // The values of array i. Inner: they stand on the sheet, each part below p.
 pub(crate) fn values(sheet: &[u32], i: usize) -> Values

@@ -1,5 +1,5 @@
--- The elements that numbers make, in any field that serves.
-use Prim.Native.Nat.{ℕ, zero, suc, _+_, _*_, _≤_}
+-- The elements that numbers make, in any field in which keys are evaluated.
+use Prim.Native.Nat.{ℕ, zero, suc, _*_, _≤_}
 use mathlib.Core.List.{List, [], _∷_, _++_, map, flatMap}
 use mathlib.Core.Path.{_≡_, sym, ap, _∙_}
 use native.Mathlib.Nat.{mul-zero, mul-suc, add-comm}
@@ -8,7 +8,7 @@ use lib.ListN.{length, getD, take, drop, length-drop, take-append-drop}
 use lib.Seq.{length-take-le, drop-drop}
 use Rattle.algebra.specs.Digits.{digits}
 use Rattle.algebra.specs.Points.{Below}
-use Rattle.algebra.proofs.Points.{below-take, below-drop}
+use Rattle.algebra.proofs.CoordinatesBelow.{below-take, below-drop}
 use Rattle.field.specs.Fp.{p}
 use Rattle.field.specs.Scalars.{Scalars, sizeOf, Lawful}
 

@@ -5,8 +5,8 @@ use native.Mathlib.Nat.{mod-lt, mod-add-mod, add-mod-mod, add-mod, add-assoc, mu
 use native.Mathlib.Omega.{arith}
 use Rattle.algebra.specs.Field.{Ring, FiniteField}
 use Rattle.field.specs.Fp.{p, fp}
-use Rattle.field.proofs.Divisors.{p-prime}
 use Rattle.field.proofs.Inverses.{inverse}
+use Rattle.field.proofs.PIsPrime.{p-prime}
 use Rattle.field.proofs.Remainders.{mod-mul-mod, mul-mod-mod}
 
 unfoldable pub fp-ring : Ring fp

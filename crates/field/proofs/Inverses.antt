@@ -1,5 +1,5 @@
--- Modulo a prime every number but 0 has an inverse: the remainder of n by a is smaller than a, and an inverse of it gives
--- one of a.
+-- Modulo a prime every number but 0 has an inverse.
+-- The remainder of n by a is smaller than a, and an inverse of it gives one of a.
 use Prim.Native.Nat.{ℕ, zero, suc, _+_, _-_, _*_, _/_, _%_, _≤_, _<_}
 use mathlib.Core.Logic.{⊎-elim}
 use mathlib.Core.Path.{_≡_, ap, _∙_}

@@ -105,6 +105,16 @@ impl Fp {
         Fp::folded(number * (other.0 as u64))
     }
 
+    // A number that is the sum modulo p of a number and such a product, which is folded before it is added: the number grows by less than
+    // 2^34. Inner: the number is below 2^63, the others as for `times`.
+    pub fn plus_times(sum: u64, number: u64, other: Fp) -> u64
+        requires { ⌜ (sum < 9223372036854775808) × (number < 8589934592) × (other .0 < p) ⌝ }
+        ensures { λ r. ⌜ (r % p ≡ fp .add (sum % p) (fp .mul (number % p) (other .0))) × (r < sum + 17179869184) ⌝ }
+    {
+        let product = number * (other.0 as u64);
+        sum + Fp::folded(product)
+    }
+
     // A number that is the product of two numbers modulo p: their product, folded. Inner: that is below 2^64.
     pub fn product(one: u64, other: u64) -> u64
         requires { ⌜ one * other < 18446744073709551616 ⌝ }

@@ -1,4 +1,4 @@
--- What it means that a key is accepted.
+-- What it means that a key is accepted: it is the key of well-formed arrays.
 use Prim.Native.Nat.{ℕ, suc, _+_, _-_, _≤_}
 use mathlib.Core.List.{flatMap, List, [], _∷_, _++_, append-nil}
 use mathlib.Core.Path.{_≡_, sym, ap, subst, _∙_}
@@ -9,7 +9,7 @@ use Rattle.records.specs.Kinds.{encoded}
 use Rattle.records.specs.Take.{takenOutcome, takenAt}
 use Rattle.records.specs.declared.Record.{Record}
 use Rattle.records.specs.declared.Taken.{Taken}
-use Rattle.records.proofs.Taking.{given-onward}
+use Rattle.records.proofs.TakeCases.{given-onward}
 use Rattle.arrays.specs.Arrays.{Array, arrayAt}
 use Rattle.arrays.specs.Placing.{blocks}
 use Rattle.arrays.specs.WellFormed.{WellFormed, LastOfShape}
@@ -20,11 +20,11 @@ use Rattle.key.specs.Index.{startsOf, Runs, Indexes}
 use Rattle.key.specs.KeyArrays.{arraysOf, keyArrays}
 use Rattle.key.specs.Reading.{recordsIn}
 use Rattle.key.specs.declared.Counts.{Counts}
-use Rattle.key.proofs.Countings.{counts-key}
 use Rattle.key.proofs.Encodings.{arrays-back}
-use Rattle.key.proofs.Made.{judged-key, Made, made}
+use Rattle.key.proofs.KeyCounts.{counts-key}
 use Rattle.key.proofs.Offsets.{offsetBehind, startsFrom, arrayStarts, starts-length, starts-arrays}
-use Rattle.key.proofs.Running.{read-runs, runs-apart, arrays-run, runs-bytes}
+use Rattle.key.proofs.RecordRuns.{read-runs, runs-apart, arrays-run, runs-bytes}
+use Rattle.key.proofs.RecordsOfAcceptedKey.{judged-key, Made, made}
 
 module _ (key : List ℕ) (counts : Counts) (accepted : checkedKey key ≡ given counts) where
   m : Made key counts (recordsIn key)

@@ -8,7 +8,7 @@ use Rattle.key.specs.Before.{openingIn, opened}
 use Rattle.key.specs.Encoding.{cellRecord, callRecord, openingRecord, entryRecords, arrayRecords, arraysRecords, keyRecords}
 use Rattle.key.specs.KeyArrays.{cellsFirst, callsFirst, arraysOf}
 use Rattle.rules.specs.declared.Opening.{Opening}
-use Rattle.key.proofs.Joined.{flatMap-append}
+use Rattle.key.proofs.JoinedLists.{flatMap-append}
 
 -- ---- the arrays back
 

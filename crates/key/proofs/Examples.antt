@@ -1,30 +1,27 @@
 -- The key of 01's keysheet input, its arrays and where they begin, and a key for each refusal. Number 6 needs more than 3,000
 -- bytes, and the test program has it.
 use Prim.Native.Nat.{ℕ}
-use mathlib.Core.List.{flatMap, List, [], _∷_, _++_, map}
+use mathlib.Core.List.{List, [], _∷_, _++_, map}
 use mathlib.Core.Path.{_≡_, refl}
 use lib.ListN.{replicate}
 use Rattle.refusal.specs.Number.{numberOf}
 use Rattle.refusal.specs.Outcome.{given, refused}
 use Rattle.field.specs.Fp.{p}
-use Rattle.records.specs.Kinds.{recordOf}
-use Rattle.records.specs.Take.{takenAs, takenFrom, takenAt}
 use Rattle.records.specs.declared.Record.{Record}
 use Rattle.records.proofs.Examples.{key}
 use Rattle.arrays.specs.Arrays.{cells, calls}
-use Rattle.key.specs.Before.{countOf}
-use Rattle.key.specs.Check.{firstBroken, rulesOf, rulesBehind, judged, checkedKey}
+use Rattle.key.specs.Check.{checkedKey}
 use Rattle.key.specs.Encoding.{headRecord, bytesOfAll}
 use Rattle.key.specs.Index.{startsOf}
-use Rattle.key.specs.KeyArrays.{cellsFirst, callsFirst, arraysOf, keyArrays}
-use Rattle.key.specs.Reading.{readAt, readFrom, locatedIn}
+use Rattle.key.specs.KeyArrays.{keyArrays}
+use Rattle.key.proofs.Computing.{checking}
 
 counted : checkedKey key ≡ given (record { arrays = 2; cells = 1; calls = 2; rows = 1; columns = 1 })
-unfolding checkedKey judged rulesOf rulesBehind firstBroken flatMap countOf readFrom readAt takenAt takenFrom takenAs recordOf numberOf
+unfolding checking
 counted = refl
 
 begins : startsOf key ≡ 3 ∷ 27 ∷ []
-unfolding flatMap locatedIn readFrom readAt takenAt takenFrom takenAs recordOf
+unfolding checking
 begins = refl
 
 arrays :
@@ -39,7 +36,7 @@ arrays :
       column-bits = 1;
       entries = calls (record { id = 0; down = 0; right = 0 } ∷ record { id = 0; down = 0; right = 0 } ∷ []);
     } ∷ []
-unfolding arraysOf cellsFirst callsFirst locatedIn readFrom readAt takenAt takenFrom takenAs recordOf
+unfolding checking
 arrays = refl
 
 -- ---- refusals
@@ -109,7 +106,7 @@ faults :
     refused 10 9 ∷
     refused 12 6 ∷
     []
-unfolding checkedKey judged rulesOf rulesBehind firstBroken flatMap countOf readFrom readAt takenAt takenFrom takenAs recordOf numberOf
+unfolding checking
 faults = refl
 
 -- 1: a byte too many

@@ -10,7 +10,7 @@ use Rattle.arrays.specs.Arrays.{Entries, cells, calls, Array}
 use Rattle.key.specs.Before.{openingIn}
 use Rattle.key.specs.Encoding.{cellRecord, callRecord, openingRecord, entryRecords, arrayRecords, arraysRecords, bytesOfAll}
 use Rattle.rules.specs.declared.Opening.{Opening}
-use Rattle.key.proofs.Joined.{flatMap-append}
+use Rattle.key.proofs.JoinedLists.{flatMap-append}
 
 -- the offset behind some records that begin at an offset
 abbrev pub offsetBehind : ℕ → List Record → ℕ

@@ -8,9 +8,9 @@ use lib.ListN.{length}
 use Rattle.refusal.specs.Outcome.{Outcome, given, refused, refuse, refusalOf}
 use Rattle.refusal.specs.declared.Reason.{Reason}
 use Rattle.records.specs.declared.Record.{Record}
-use Rattle.key.specs.Before.{opened, openingAt, openNow, headOf, countOf}
-use Rattle.key.specs.Reading.{Located, Reading, ended, stopped, located, readingOf}
 use Rattle.rules.specs.Rules.{Rule, headRules, openingRules, cellRules, callRules, endRules, afterRules}
+use Rattle.key.specs.Before.{opened, openingAt, openNow, headOf, countOf}
+use Rattle.key.specs.Reading.{Located, Reading, ended, stopped, located, isEnd, readingOf}
 use Rattle.key.specs.declared.Checked.{Checked}
 use Rattle.key.specs.declared.Counts.{Counts}
 
@@ -38,12 +38,7 @@ rulesOf before Record.End = endRules (headOf before) (length (opened before)) (o
 
 -- what may stand behind a record, up to the key's length: behind an end, nothing
 unfoldable pub rulesBehind : Record → ℕ → ℕ → List Rule
-rulesBehind (Record.Head shape) next len = []
-rulesBehind (Record.Sparse shape) next len = []
-rulesBehind (Record.Recursive shape) next len = []
-rulesBehind (Record.Cell cell) next len = []
-rulesBehind (Record.Call call) next len = []
-rulesBehind Record.End next len = afterRules next len
+rulesBehind r next len = cond (isEnd r) (afterRules next len) []
 
 -- a record is held to its rules at its offset, and then to those behind it at the offset there
 abbrev pub judgedBy : {A : Type 0} → ℕ → List Record → Located → Outcome A → Outcome A

@@ -1,13 +1,11 @@
 -- What the contracts of inner functions cite: it mirrors the code. No public promise rests on it.
-use Prim.Native.Nat.{ℕ, min, _+_, _-_, _*_, _/_, _≤_, _<_}
-use mathlib.Core.Bool.{Bool, true, false}
+use Prim.Native.Nat.{ℕ, min, _+_, _*_, _/_, _≤_, _<_}
+use mathlib.Core.Bool.{Bool, true, false, _||_}
 use mathlib.Core.List.{List, _++_, map}
 use mathlib.Core.Path.{_≡_}
 use lib.Dec.{eqb}
 use lib.ListN.{length, getD, take}
-use Rattle.refusal.specs.Outcome.{Outcome, refuse, refusalOf}
-use Rattle.refusal.specs.declared.Reason.{Reason}
-use Rattle.records.specs.Kinds.{encoded}
+use Rattle.records.specs.Kinds.{kindOf, encoded}
 use Rattle.records.specs.Take.{takenOutcome, takenAt}
 use Rattle.records.specs.declared.Call.{Call}
 use Rattle.records.specs.declared.Record.{Record}
@@ -15,14 +13,14 @@ use Rattle.records.specs.declared.Shape.{Shape}
 use Rattle.records.specs.declared.Taken.{Taken}
 use Rattle.arrays.specs.WellFormed.{Each}
 use Rattle.rules.specs.Inner.{heldTo, AllKept, shapeRead, Narrow, callRulesIn}
+use Rattle.rules.specs.Rules.{Rule, headRules, openingRules, cellRules, endRules}
+use Rattle.rules.specs.declared.Opening.{Opening}
+use Rattle.rules.specs.declared.Verdict.{Verdict}
 use Rattle.key.specs.Before.{opened, openingAt, openNow, headOf, countOf}
 use Rattle.key.specs.Check.{rulesBehind, judged, checkedKey}
 use Rattle.key.specs.Index.{Runs, startsIn}
-use Rattle.key.specs.Reading.{Located, readFrom, readingOf, locatedIn, items}
-use Rattle.rules.specs.Rules.{Rule, headRules, openingRules, cellRules, endRules}
+use Rattle.key.specs.Reading.{Located, isEnd, readFrom, readingOf, locatedIn, items}
 use Rattle.key.specs.declared.Counts.{Counts}
-use Rattle.rules.specs.declared.Opening.{Opening}
-use Rattle.rules.specs.declared.Verdict.{Verdict}
 use Rattle.key.specs.declared.seen.Seen.{Seen}
 
 -- ---- the shapes of the arrays so far
@@ -49,23 +47,9 @@ abbrev pub verdictOn : Seen → List ℕ → List ℕ → ℕ → ℕ → Record
 verdictOn seen key starts at next item =
     heldTo (heldTo Verdict.Kept at (rulesSeen seen key starts item)) next (rulesBehind item next (length key))
 
--- whether a record ends the key
-abbrev pub isEnd : Record → Bool
-isEnd (Record.Head shape) = false
-isEnd (Record.Sparse shape) = false
-isEnd (Record.Recursive shape) = false
-isEnd (Record.Cell cell) = false
-isEnd (Record.Call call) = false
-isEnd Record.End = true
-
--- whether a record opens an array or ends the key
+-- does a record open an array or end the key?
 abbrev pub opensOrEnds : Record → Bool
-opensOrEnds (Record.Head shape) = false
-opensOrEnds (Record.Sparse shape) = true
-opensOrEnds (Record.Recursive shape) = true
-opensOrEnds (Record.Cell cell) = false
-opensOrEnds (Record.Call call) = false
-opensOrEnds Record.End = true
+opensOrEnds r = eqb (kindOf r) 0x02 || eqb (kindOf r) 0x03 || isEnd r
 
 -- a record is an entry of an array: a cell or a call
 abbrev pub IsEntry : Record → Type 0
@@ -131,11 +115,6 @@ countsSeen seen =
       rows = seen .head .rows;
       columns = seen .head .columns;
     }
-
--- the answer where no record can be taken; it is never asked for a record
-abbrev pub notTaken : Taken → Outcome Counts
-notTaken (Taken.Refused f) = refusalOf f
-notTaken (Taken.Record r next) = refuse Reason.RecordIncomplete next
 
 -- ---- the walk
 

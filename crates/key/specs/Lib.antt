@@ -5,4 +5,5 @@ pub mod KeyArrays
 pub mod Encoding
 pub mod Index
 pub mod Accepted
+pub mod Indexed
 pub mod Inner

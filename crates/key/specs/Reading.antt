@@ -1,11 +1,13 @@
 -- The records of a key: taken one behind the other, from its first byte on (01, 'An accepted key').
 use Prim.Native.Nat.{ℕ, zero, suc}
+use mathlib.Core.Bool.{Bool, cond}
 use mathlib.Core.List.{List, [], _∷_, map}
+use lib.Dec.{eqb}
 use lib.ListN.{length}
 use Rattle.refusal.specs.Number.{numberOf}
 use Rattle.refusal.specs.Outcome.{Outcome, given, refused}
 use Rattle.refusal.specs.declared.Reason.{Reason}
-use Rattle.records.specs.Kinds.{recordOf}
+use Rattle.records.specs.Kinds.{kindOf, recordOf}
 use Rattle.records.specs.Take.{Found, takenAt}
 use Rattle.records.specs.declared.Record.{Record}
 
@@ -24,14 +26,13 @@ pub data Reading : Type 0 where
   -- a record, and what is read behind it
   located : Located → Reading → Reading
 
+-- is a record an end?
+abbrev pub isEnd : Record → Bool
+isEnd r = eqb (kindOf r) 0x06
+
 -- what is read behind a record: nothing where that is an end
 abbrev pub behind : Record → Reading → Reading
-behind (Record.Head shape) rest = rest
-behind (Record.Sparse shape) rest = rest
-behind (Record.Recursive shape) rest = rest
-behind (Record.Cell cell) rest = rest
-behind (Record.Call call) rest = rest
-behind Record.End rest = ended
+behind r rest = cond (isEnd r) ended rest
 
 -- what is read at an offset, by what taking a record there answers; `rest` is what is read from a later offset on
 unfoldable pub readAt : ℕ → Outcome Found → (ℕ → Reading) → Reading
@@ -47,7 +48,7 @@ readFrom zero key at = stopped (numberOf Reason.RecordIncomplete) at
 readFrom (suc steps) key at = readAt at (takenAt key at) (readFrom steps key)
 
 -- A record has a byte or more, so that a step for each byte and one more read the whole key; more of them read the same
--- (`steps-enough` and `reading-unfolds` in proofs/Readings.antt).
+-- (`steps-enough` and `reading-unfolds` in proofs/ReadingSteps.antt).
 abbrev pub readingOf : List ℕ → Reading
 readingOf key = readFrom (suc (length key)) key 0
 

@@ -11,10 +11,11 @@ use rules::Verdict;
 ghost use mathlib.Core.Path.{_≡_};
 ghost use Prim.Native.Nat.{min, _/_, _≤_};
 ghost use lib.ListN.{length};
-ghost use Rattle.refusal.specs.Outcome.{refuse};
+ghost use Rattle.refusal.specs.Outcome.{refuse, refusalOf};
+ghost use Rattle.refusal.specs.declared.Refusal.{Refusal};
+ghost use Rattle.records.specs.declared.Taken.{Taken};
 ghost use Rattle.key.specs.Check.{checkedOutcome, checkedKey};
 ghost use Rattle.key.specs.Index.{Indexing};
-ghost use Rattle.key.specs.Inner.{notTaken};
 
 // The counts of an accepted key over its records, and the head's row bits and column bits.
 pub struct Counts {
@@ -92,9 +93,9 @@ pub fn refused(reason: Reason, place: usize) -> Checked
     })
 }
 
-// The refusal to take a record. It is never called with a record.
+// The refusal to take a record. Of a record nothing is promised, since it is never called with one.
 fn not_taken(taken: Taken) -> Checked
-    ensures { λ r. ⌜ checkedOutcome r ≡ notTaken taken ⌝ }
+    ensures { λ r. ⌜ ((f : Refusal) → taken ≡ Taken.Refused f → checkedOutcome r ≡ refusalOf f) ⌝ }
 {
     match taken {
         Taken::Refused(refusal) => Checked::Refused(refusal),

@@ -14,7 +14,8 @@ ghost use lib.ListN.{length, set};
 ghost use Rattle.records.specs.declared.Record.{Record};
 ghost use Rattle.rules.specs.Rules.{cellRules};
 ghost use Rattle.rules.specs.Inner.{Noted, Narrow, callRulesIn};
-ghost use Rattle.key.specs.Inner.{Here, Only, Run, Fails, Tried, isEnd, opensOrEnds, opening};
+ghost use Rattle.key.specs.Inner.{Here, Only, Run, Fails, Tried, opensOrEnds, opening};
+ghost use Rattle.key.specs.Reading.{isEnd};
 
 // Where the walk stands: what was seen before the offset of the next record.
 pub(crate) struct Reached {
@@ -26,7 +27,8 @@ pub(crate) struct Reached {
 // of offsets may hold anything. Inner: the key is not too long.
 pub(crate) fn head(key: &[u8]) -> Reached
     requires { ⌜ length (now key) ≤ 65536 ⌝ }
-    ensures here { λ r. ⌜ ((starts : List ℕ) → min 1024 (length (now (key .entry)) / 3) ≤ length starts → Here (now (key .entry)) starts (r .seen) (r .at)) ⌝ }
+    ensures here { λ r. ⌜
+        ((starts : List ℕ) → min 1024 (length (now (key .entry)) / 3) ≤ length starts → Here (now (key .entry)) starts (r .seen) (r .at)) ⌝ }
     ensures only { λ r. ⌜ ((starts : List ℕ) → Only opensOrEnds (now (key .entry)) starts (r .seen) (r .at)) ⌝ }
 {
     let nothing = Reached {

@@ -1,9 +1,5 @@
 // Keysheet (01, 'The keysheet program and the host'): reads a point and a key from standard input, and prints each array's values
 // there, or the refusal.
-mod input;
-mod lines;
-mod report;
-mod text;
 
 // One byte more than an input may have is read, so that a longer one is known.
 fn main() {

@@ -5,19 +5,20 @@ use lib.Dec.{eqb}
 use Rattle.refusal.specs.Number.{numberOf}
 use Rattle.refusal.specs.Outcome.{given}
 use Rattle.refusal.specs.declared.Refusal.{Refusal}
+use Rattle.refusal.specs.declared.Which.{Which}
 use Rattle.refusal.proofs.Numbers.{number-injective, number-some}
 use Rattle.key.specs.Check.{checkedOutcome}
 use Rattle.key.specs.declared.Checked.{Checked}
-use Rattle.evaluate.specs.Evaluate.{evaluatedOutcome}
+use Rattle.evaluate.specs.Answer.{evaluatedOutcome}
 use Rattle.evaluate.specs.declared.Evaluated.{Evaluated}
 use Rattle.evaluate.proofs.Answers.{evaluated-injective}
-use Rattle.evaluate_quadratic.specs.Evaluate.{evaluatedOutcome as quadraticOutcome}
+use Rattle.comparison.specs.AgreementBound.{isSame}
+use Rattle.comparison.specs.Compare.{Answer, same, different, refusedFor}
+use Rattle.compare.specs.Answer.{comparedAnswer}
+use Rattle.compare.specs.declared.Compared.{Compared}
+use Rattle.evaluate_quadratic.specs.Answer.{evaluatedOutcome as quadraticOutcome}
 use Rattle.evaluate_quadratic.specs.declared.Evaluated.{Evaluated as Quadratic}
 use Rattle.evaluate_quadratic.proofs.Answers.{evaluated-injective as quadratic-injective}
-use Rattle.compare.specs.AgreementBound.{isSame}
-use Rattle.compare.specs.Compare.{Answer, same, different, refusedFor, comparedAnswer}
-use Rattle.compare.specs.declared.Compared.{Compared}
-use Rattle.compare.specs.declared.Which.{Which}
 use Rattle.morgana.specs.Reply.{checkReply, evaluateReply, quadraticReply, keyNumber, compareReply}
 use Rattle.morgana.specs.declared.CheckReply.{CheckReply}
 use Rattle.morgana.specs.declared.CompareReply.{CompareReply}

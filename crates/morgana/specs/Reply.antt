@@ -2,12 +2,12 @@
 -- other field is 0, but for the key that a refused comparison names.
 use Prim.Native.Nat.{ℕ}
 use Rattle.refusal.specs.Outcome.{Outcome, given, refused}
+use Rattle.refusal.specs.declared.Which.{Which}
 use Rattle.quadratic.specs.Quadratic.{quadratic}
 use Rattle.arrays.specs.Arrays.{Values}
 use Rattle.key.specs.declared.Counts.{Counts}
-use Rattle.evaluate.specs.Evaluate.{ValuesOf}
-use Rattle.compare.specs.Compare.{Answer, same, different, refusedFor}
-use Rattle.compare.specs.declared.Which.{Which}
+use Rattle.evaluation.specs.Evaluate.{ValuesOf}
+use Rattle.comparison.specs.Compare.{Answer, same, different, refusedFor}
 use Rattle.morgana.specs.declared.CheckReply.{CheckReply}
 use Rattle.morgana.specs.declared.CompareReply.{CompareReply}
 use Rattle.morgana.specs.declared.EvaluateReply.{EvaluateReply}

@@ -8,10 +8,10 @@ ghost use mathlib.Core.Path.{_≡_};
 ghost use Rattle.field.specs.Scalars.{prime};
 ghost use Rattle.quadratic.specs.Quadratic.{quadratic};
 ghost use Rattle.key.specs.Check.{checkedKey};
-ghost use Rattle.evaluate.specs.Cell.{celled};
-ghost use Rattle.evaluate.specs.Evaluate.{evaluated};
-ghost use Rattle.compare.specs.AgreementBound.{Agreement};
-ghost use Rattle.compare.specs.Compare.{compared};
+ghost use Rattle.evaluation.specs.Cell.{celled};
+ghost use Rattle.evaluation.specs.Evaluate.{evaluated};
+ghost use Rattle.comparison.specs.AgreementBound.{Agreement};
+ghost use Rattle.comparison.specs.Compare.{compared};
 ghost use Rattle.morgana.specs.Reply.{checkReply, evaluateReply, quadraticReply, compareReply};
 
 // The reply to check: an accepted key's counts of arrays, cells and calls, and its row bits and column bits.
@@ -99,8 +99,12 @@ pub extern "C" fn morgana_evaluate(
     columns: &[u32],
     sheet: &mut [u32],
 ) -> EvaluateReply
-    ensures reply { λ r. ⌜ r ≡ evaluateReply (evaluated prime (now (key .entry)) (now (rows .entry)) (now (columns .entry)) (now (sheet .entry)) .answer) ⌝ }
-    ensures sheet { λ _. ⌜ now (sheet .exit) ≡ evaluated prime (now (key .entry)) (now (rows .entry)) (now (columns .entry)) (now (sheet .entry)) .sheet ⌝ }
+    ensures reply { λ r. ⌜
+        r ≡
+        evaluateReply (evaluated prime (now (key .entry)) (now (rows .entry)) (now (columns .entry)) (now (sheet .entry)) .answer) ⌝ }
+    ensures sheet { λ _. ⌜
+        now (sheet .exit) ≡
+        evaluated prime (now (key .entry)) (now (rows .entry)) (now (columns .entry)) (now (sheet .entry)) .sheet ⌝ }
 {
     reply::of_evaluated(evaluate::evaluate(key, rows, columns, sheet))
 }
@@ -121,7 +125,7 @@ pub extern "C" fn morgana_cell(
 }
 
 // Whether two keys of one shape have the same A, B and C at a point. The sheet ends as if the first key and then the second had
-// been evaluated on it, and a refused call leaves it. The clause `agreement` is demand 3.
+// been evaluated on it, and a refused call leaves it. Demand 3 is `reply` and `agreement` together, as for `compare::compare`.
 #[no_mangle]
 pub extern "C" fn morgana_compare(
     first: &[u8],
@@ -130,8 +134,14 @@ pub extern "C" fn morgana_compare(
     columns: &[u32],
     sheet: &mut [u32],
 ) -> CompareReply
-    ensures reply { λ r. ⌜ r ≡ compareReply (compared prime (now (first .entry)) (now (second .entry)) (now (rows .entry)) (now (columns .entry)) (now (sheet .entry)) .answer) ⌝ }
-    ensures sheet { λ _. ⌜ now (sheet .exit) ≡ compared prime (now (first .entry)) (now (second .entry)) (now (rows .entry)) (now (columns .entry)) (now (sheet .entry)) .sheet ⌝ }
+    ensures reply { λ r. ⌜
+        r ≡
+        compareReply
+        (compared prime (now (first .entry)) (now (second .entry)) (now (rows .entry)) (now (columns .entry)) (now (sheet .entry)) .answer) ⌝ }
+    ensures sheet { λ _. ⌜
+        now (sheet .exit) ≡
+        compared prime (now (first .entry)) (now (second .entry)) (now (rows .entry)) (now (columns .entry)) (now (sheet .entry))
+        .sheet ⌝ }
     ensures agreement { λ _. ⌜ Agreement prime (now (first .entry)) (now (second .entry)) ⌝ }
 {
     reply::of_compared(compare::compare(first, second, rows, columns, sheet))
@@ -146,14 +156,20 @@ pub extern "C" fn morgana_evaluate_quadratic(
     columns: &[u32],
     sheet: &mut [u32],
 ) -> QuadraticReply
-    ensures reply { λ r. ⌜ r ≡ quadraticReply (evaluated quadratic (now (key .entry)) (now (rows .entry)) (now (columns .entry)) (now (sheet .entry)) .answer) ⌝ }
-    ensures sheet { λ _. ⌜ now (sheet .exit) ≡ evaluated quadratic (now (key .entry)) (now (rows .entry)) (now (columns .entry)) (now (sheet .entry)) .sheet ⌝ }
+    ensures reply { λ r. ⌜
+        r ≡
+        quadraticReply
+        (evaluated quadratic (now (key .entry)) (now (rows .entry)) (now (columns .entry)) (now (sheet .entry)) .answer) ⌝ }
+    ensures sheet { λ _. ⌜
+        now (sheet .exit) ≡
+        evaluated quadratic (now (key .entry)) (now (rows .entry)) (now (columns .entry)) (now (sheet .entry)) .sheet ⌝ }
 {
     reply::of_quadratic(evaluate_quadratic::evaluate(key, rows, columns, sheet))
 }
 
 // Whether two keys of one shape have the same A, B and C at a point of the field of p² elements. The sheet ends as if the first key and
-// then the second had been evaluated on it, and a refused call leaves it. The clause `agreement` is the agreement bound where q is p².
+// then the second had been evaluated on it, and a refused call leaves it. `reply` and `agreement` together are the agreement bound where q
+// is p².
 #[no_mangle]
 pub extern "C" fn morgana_compare_quadratic(
     first: &[u8],
@@ -162,8 +178,14 @@ pub extern "C" fn morgana_compare_quadratic(
     columns: &[u32],
     sheet: &mut [u32],
 ) -> CompareReply
-    ensures reply { λ r. ⌜ r ≡ compareReply (compared quadratic (now (first .entry)) (now (second .entry)) (now (rows .entry)) (now (columns .entry)) (now (sheet .entry)) .answer) ⌝ }
-    ensures sheet { λ _. ⌜ now (sheet .exit) ≡ compared quadratic (now (first .entry)) (now (second .entry)) (now (rows .entry)) (now (columns .entry)) (now (sheet .entry)) .sheet ⌝ }
+    ensures reply { λ r. ⌜
+        r ≡
+        compareReply
+        (compared quadratic (now (first .entry)) (now (second .entry)) (now (rows .entry)) (now (columns .entry)) (now (sheet .entry)) .answer) ⌝ }
+    ensures sheet { λ _. ⌜
+        now (sheet .exit) ≡
+        compared quadratic (now (first .entry)) (now (second .entry)) (now (rows .entry)) (now (columns .entry))
+        (now (sheet .entry)) .sheet ⌝ }
     ensures agreement { λ _. ⌜ Agreement quadratic (now (first .entry)) (now (second .entry)) ⌝ }
 {
     reply::of_compared(compare_quadratic::compare(first, second, rows, columns, sheet))

@@ -3,14 +3,14 @@ use crate::CompareReply;
 use crate::EvaluateReply;
 use crate::QuadraticReply;
 use compare::Compared;
-use compare::Which;
 use evaluate::Evaluated;
 use refusal::Refusal;
+use refusal::Which;
 ghost use mathlib.Core.Path.{_≡_};
 ghost use Rattle.refusal.specs.Number.{numberOf};
-ghost use Rattle.evaluate.specs.Evaluate.{evaluatedOutcome};
-ghost use Rattle.evaluate_quadratic.specs.Evaluate.{evaluatedOutcome as evaluatedQuadratic};
-ghost use Rattle.compare.specs.Compare.{comparedAnswer};
+ghost use Rattle.evaluate.specs.Answer.{evaluatedOutcome};
+ghost use Rattle.compare.specs.Answer.{comparedAnswer};
+ghost use Rattle.evaluate_quadratic.specs.Answer.{evaluatedOutcome as evaluatedQuadratic};
 ghost use Rattle.morgana.specs.Reply.{evaluateReply, quadraticReply, compareReply, keyNumber};
 
 // The reply for an answer of evaluate or cell.

@@ -1,5 +1,6 @@
--- The counting theorem (01, 'Comparing two keys'): at how many points of a finite field two matrices agree. Where they differ at a
--- place, at no more than q^m - (q-1)^m of the q^m points; where they do not, at all.
+-- The counting theorem (01, 'Comparing two keys'): at how many points of a finite field the extensions of two matrices agree.
+-- Where the matrices differ at a place, at no more than q^m - (q-1)^m of the q^m points; where they differ at none, at
+-- every point.
 use Prim.Native.Nat.{ℕ, _+_, _-_, _^_, _≤_, _<_}
 use mathlib.Core.Bool.{Bool, true, false, not, not-eq-not}
 use mathlib.Core.List.{List, map}
@@ -10,15 +11,15 @@ use lib.Seq.{length-take-le}
 use Rattle.algebra.specs.Arithmetic.{Arithmetic}
 use Rattle.algebra.specs.Field.{Ring, FiniteField}
 use Rattle.algebra.specs.Points.{countPoints, Below}
-use Rattle.algebra.proofs.Counts.{count-split}
 use Rattle.algebra.proofs.Fields.{decide}
+use Rattle.algebra.proofs.PointCounts.{count-split}
 use Rattle.algebra.proofs.Rings.{cancel-nought, equal}
 use Rattle.multilinear.specs.Agreement.{Differ, extensionAt}
 use Rattle.multilinear.specs.Extension.{weighted}
 use Rattle.multilinear.specs.Matrix.{Matrix, noughts}
 use Rattle.multilinear.specs.Weight.{weight}
-use Rattle.multilinear.proofs.Nonzero.{nonzero-matrix}
-use Rattle.multilinear.proofs.Weighted.{weighted-valid, weighted-same, weighted-add}
+use Rattle.multilinear.proofs.NonzeroExtensions.{nonzero-matrix}
+use Rattle.multilinear.proofs.WeightedSums.{weighted-valid, weighted-same, weighted-add}
 
 module _ (𝓐 : Arithmetic) (𝓕 : FiniteField 𝓐) where
   open Arithmetic 𝓐 using (Carrier, nought, sub)

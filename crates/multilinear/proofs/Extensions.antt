@@ -12,9 +12,9 @@ use Rattle.multilinear.specs.Matrix.{Matrix, moved}
 use Rattle.multilinear.specs.Weight.{weight, bits}
 use Rattle.multilinear.proofs.Bits.{bits-length, weight-bits-same, weight-bits-other}
 use Rattle.multilinear.proofs.Blocks.{block-fits}
-use Rattle.multilinear.proofs.Weighted.{weighted-moved}
+use Rattle.multilinear.proofs.WeightedSums.{weighted-moved}
 use Rattle.multilinear.proofs.Weights.{weight-split}
-use Rattle.multilinear.proofs.Windows.{sums-one}
+use Rattle.multilinear.proofs.WindowSums.{sums-one}
 
 module _ (𝓐 : Arithmetic) (𝓡 : Ring 𝓐) (m : Matrix 𝓐) where
   open Arithmetic 𝓐 using (Carrier, unit, mul)

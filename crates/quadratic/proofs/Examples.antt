@@ -1,4 +1,4 @@
--- Worked examples.
+-- Worked examples: products, the sizes of the two fields, numbers two by two, and a word.
 use Prim.Native.Nat.{ℕ, _*_}
 use mathlib.Core.List.{[], _∷_}
 use mathlib.Core.Path.{_≡_, refl}

@@ -8,7 +8,7 @@ use Rattle.field.specs.Fp.{p}
 use Rattle.field.proofs.FpField.{fp-ring, inverse-below}
 use Rattle.field.proofs.Remainders.{same-rest, mod-mul-mod}
 use Rattle.quadratic.specs.Fp2.{TwoParts, Reduced, fp2}
-use Rattle.quadratic.proofs.NoRoot.{two-squares}
+use Rattle.quadratic.proofs.MinusOneNoSquare.{two-squares}
 use Rattle.quadratic.proofs.Products.{
   parts-equal,
   reduced,

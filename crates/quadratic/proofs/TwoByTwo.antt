@@ -1,4 +1,4 @@
--- Numbers two by two, place by place.
+-- Numbers two by two: element i is made of the numbers 2i and 2i + 1.
 use Prim.Native.Nat.{ℕ, zero, suc, _+_, _*_, _/_, _≤_, _<_}
 use mathlib.Core.List.{List, [], _∷_}
 use mathlib.Core.Path.{_≡_, refl, sym, ap, ap₂, subst, _∙_}

@@ -2,7 +2,7 @@
 use crate::Fp2;
 use field::Fp;
 ghost use mathlib.Core.Path.{_≡_};
-ghost use Prim.Native.Nat.{_+_, _*_, _/_, _≤_, _<_};
+ghost use Prim.Native.Nat.{_+_, _*_, _≤_, _<_};
 ghost use Rattle.field.specs.Fp.{p};
 ghost use Rattle.quadratic.specs.Fp2.{fp2};
 ghost use Rattle.quadratic.specs.Parts.{parts, PartsBelow};

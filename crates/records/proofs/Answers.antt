@@ -35,18 +35,6 @@ taken-injective (Taken.Record r m) (Taken.Refused g) e = absurd (given-not-refus
 taken-injective (Taken.Refused f) (Taken.Record s n) e = absurd (given-not-refused (sym e))
 taken-injective (Taken.Refused f) (Taken.Refused g) e = ap Taken.Refused (refusal-injective f g e)
 
-itemIn : Taken → Record
-itemIn (Taken.Record item next) = item
-itemIn (Taken.Refused f) = Record.End
-
-nextIn : Taken → ℕ
-nextIn (Taken.Record item next) = next
-nextIn (Taken.Refused f) = 0
-
-pub record-same : (r s : Record) (m n : ℕ) → Taken.Record r m ≡ Taken.Record s n → (r ≡ s) × (m ≡ n)
-unfolding itemIn nextIn
-record-same r s m n e = (ap itemIn e, ap nextIn e)
-
 pub written-injective : (r s : Written) → writtenOutcome r ≡ writtenOutcome s → r ≡ s
 written-injective (Written.Next m) (Written.Next n) e = ap Written.Next (cc)
 written-injective (Written.Next m) (Written.Refused g) e = absurd (given-not-refused e)

@@ -17,11 +17,11 @@ use Rattle.records.specs.Take.{Found, takenOutcome, takenAt}
 use Rattle.records.specs.declared.Record.{Record}
 use Rattle.records.specs.declared.Taken.{Taken}
 use Rattle.records.specs.declared.Written.{Written}
-use Rattle.records.proofs.Fields.{length-fields, fields-back, bytes-dropped, bytes-back}
-use Rattle.records.proofs.Numbers.{AreBytes, drop-from}
-use Rattle.records.proofs.Putting.{untouched, Room, given-room, record-put}
-use Rattle.records.proofs.Sizes.{size-encoded}
-use Rattle.records.proofs.Taking.{found, record-given, Whole, given-whole, given-onward}
+use Rattle.records.proofs.FieldBytes.{length-fields, fields-back, bytes-dropped, bytes-back}
+use Rattle.records.proofs.NumberBytes.{AreBytes, drop-from}
+use Rattle.records.proofs.PutCases.{untouched, Room, given-room, record-put}
+use Rattle.records.proofs.RecordSizes.{size-encoded}
+use Rattle.records.proofs.TakeCases.{found, record-given, Whole, given-whole, given-onward}
 
 -- a record whose bytes stand between any others is taken
 pub taken-between : (r : Record) (before behind : List ℕ) → Fitting r →

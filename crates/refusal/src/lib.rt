@@ -40,6 +40,14 @@ pub struct Refusal {
     pub place: usize,
 }
 
+// The key that a refusal is about, where a call takes two.
+pub enum Which {
+    First,
+    Second,
+    // The two together, the point or the sheet.
+    Neither,
+}
+
 impl Reason {
     // The number that 01 gives the reason.
     pub fn number(self) -> u32

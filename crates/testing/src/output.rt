@@ -1,7 +1,7 @@
 // What was got, as text.
 use compare::Compared;
-use compare::Which;
 use refusal::Refusal;
+use refusal::Which;
 
 // As many bytes of standard input as asked for, where the space has room.
 pub fn echo(length: usize, space: &mut [u8]) {

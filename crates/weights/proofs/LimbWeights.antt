@@ -1,5 +1,5 @@
--- The weights of limbs in a side's table: where the weight over the last bits of a limb stands, and that a table for more bits is one for
--- fewer.
+-- The weights of limbs in a side's table: where the weight over the last bits of a limb stands.
+-- A table for more bits is one for fewer.
 use Prim.Native.Nat.{ℕ, _+_, _-_, _*_, _/_, _%_, _^_, _≤_, _<_}
 use mathlib.Core.List.{List}
 use mathlib.Core.Path.{_≡_, sym, ap, _∙_}
@@ -11,7 +11,7 @@ use Rattle.multilinear.specs.Eq.{bitwise}
 use Rattle.multilinear.proofs.Bitwise.{bitwise-low}
 use Rattle.weights.specs.Words.{Words, LawfulWords}
 use Rattle.weights.specs.Side.{elementIn, pairs, Limbs, Prepared}
-use Rattle.weights.proofs.Sizes.{size-is, place-inside}
+use Rattle.weights.proofs.LimbSizes.{size-is, place-inside}
 
 -- how many weights there are over so many bits, as a shift works it out: some, and few enough that a place behind them lies in the block
 abbrev pub size : ℕ → ℕ

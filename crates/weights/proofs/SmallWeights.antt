@@ -10,7 +10,7 @@ use Rattle.multilinear.specs.Eq.{bitwise}
 use Rattle.multilinear.proofs.Bitwise.{bitwise-valid}
 use Rattle.weights.specs.Words.{singles}
 use Rattle.weights.specs.Side.{pairs, Small, Weighs}
-use Rattle.weights.proofs.Weighing.{weight-read, weight-onward}
+use Rattle.weights.proofs.WeightProduct.{weight-read, weight-onward}
 
 -- Each product of four factors is greater than the number before it by less than 2^31: the last is at most 2^33 - 14,
 pub four-small : (one two three r : ℕ) → one < p → two + one / 1073741824 ≤ one + 2147483647 →

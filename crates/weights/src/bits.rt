@@ -32,7 +32,9 @@ pub(crate) fn bit_by_bit(a: u32, table: &[u32], from: usize, to: usize) -> u64
 // What is left is a part that is taken anew in each turn, so that one register leads to a turn's factors (docs/PERFORMANCE.md).
 fn in_fours(begun: u64, a: u32, factors: &[u32]) -> u64
     requires { ⌜ Small begun × (length (now factors) % 8 ≡ 0) × AllProper singles (now factors) ⌝ }
-    ensures { λ r. ⌜ (r % p ≡ fp .mul (begun % p) (bitwise fp (pairs singles (now (factors .entry))) (length (now (factors .entry)) / 2) 0 a)) × Small r ⌝ }
+    ensures { λ r. ⌜
+        (r % p ≡ fp .mul (begun % p) (bitwise fp (pairs singles (now (factors .entry))) (length (now (factors .entry)) / 2) 0 a)) ×
+        Small r ⌝ }
 {
     let mut product = begun;
     let mut rest = a;

@@ -62,7 +62,9 @@ fn limb_weight(a: u32, table: &[u32], limb: usize, bits: usize) -> Fp
 // once more, so that it stays below 2^33. Inner: the element is below p, and the table has the limbs' blocks.
 fn whole_limbs(begun: Fp, a: u32, table: &[u32], from: usize, to: usize) -> u64
     requires { ⌜ (begun .0 < p) × (1 ≤ from) × (from ≤ to) × (64 < length (now table)) × Prepared singles (5 * to) (now table) ⌝ }
-    ensures { λ r. ⌜ (r % p ≡ fp .mul (begun .0) (bitwise fp (pairs singles (now (table .entry))) (5 * to - 5 * from) (5 * from) a)) × (r < 8589934592) ⌝ }
+    ensures { λ r. ⌜
+        (r % p ≡ fp .mul (begun .0) (bitwise fp (pairs singles (now (table .entry))) (5 * to - 5 * from) (5 * from) a)) ×
+        (r < 8589934592) ⌝ }
 {
     let mut product = begun.value() as u64;
     let mut rest = a;

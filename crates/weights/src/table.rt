@@ -36,7 +36,8 @@ pub fn prepare(coordinates: &[u32], table: &mut [u32])
 fn pair_up(coordinates: &[u32], table: &mut [u32])
     requires { ⌜ (length (now coordinates) ≤ 30) × Below p (now coordinates) ⌝ }
     requires { ⌜ Ready singles (now table) ⌝ }
-    ensures { λ _. ⌜ Paired singles (now (coordinates .entry)) (now (table .entry)) (length (now (coordinates .entry))) (now (table .exit)) ⌝ }
+    ensures { λ _. ⌜
+        Paired singles (now (coordinates .entry)) (now (table .entry)) (length (now (coordinates .entry))) (now (table .exit)) ⌝ }
 {
     let count = coordinates.len();
     for i in 0..count {
@@ -58,7 +59,8 @@ fn fill_up(table: &mut [u32], from: usize, to: usize)
 // Writes the first blocks, so many. Inner: they are at most six, the table has places for them and the factors of their bits, and holds
 // only numbers below p.
 fn add_blocks(table: &mut [u32], blocks: usize)
-    requires { ⌜ (blocks ≤ 6) × (448 ≤ length (now table)) × AllProper singles (now table) × Complements singles (5 * blocks) (now table) ⌝ }
+    requires { ⌜
+        (blocks ≤ 6) × (448 ≤ length (now table)) × AllProper singles (now table) × Complements singles (5 * blocks) (now table) ⌝ }
     ensures { λ _. ⌜ BlocksMade singles (now (table .entry)) blocks (now (table .exit)) ⌝ }
 {
     for block in 0..blocks {
@@ -68,7 +70,8 @@ fn add_blocks(table: &mut [u32], blocks: usize)
 
 // Writes a block: the weight over no bits is 1. Inner: likewise, for this block.
 fn add_block(table: &mut [u32], block: usize)
-    requires { ⌜ (block < 6) × (448 ≤ length (now table)) × AllProper singles (now table) × Complements singles (5 * block + 5) (now table) ⌝ }
+    requires { ⌜
+        (block < 6) × (448 ≤ length (now table)) × AllProper singles (now table) × Complements singles (5 * block + 5) (now table) ⌝ }
     ensures { λ _. ⌜ BlockGrown singles (now (table .entry)) block 5 (now (table .exit)) ⌝ }
 {
     put(table, PLACES * block + PLACES + 1, Fp::one());
@@ -78,7 +81,8 @@ fn add_block(table: &mut [u32], block: usize)
 // Writes the weights of a block over one bit more and one bit more, from the limb's last bit back. Inner: likewise, and the weight over no
 // bits is written.
 fn grow(table: &mut [u32], block: usize)
-    requires { ⌜ (block < 6) × (448 ≤ length (now table)) × AllProper singles (now table) × Complements singles (5 * block + 5) (now table) ⌝ }
+    requires { ⌜
+        (block < 6) × (448 ≤ length (now table)) × AllProper singles (now table) × Complements singles (5 * block + 5) (now table) ⌝ }
     requires { ⌜ getD (now table) (64 * block + 64 + 1) 0 ≡ 1 ⌝ }
     ensures { λ _. ⌜ BlockGrown singles (now (table .entry)) block 5 (now (table .exit)) ⌝ }
 {

@@ -1,11 +1,11 @@
--- Worked examples.
+-- Worked examples over the field of p²: the factors in a table, a weight, and eq.
 use Prim.Native.Nat.{ℕ, _+_, _*_}
 use mathlib.Core.List.{List, [], _∷_}
 use mathlib.Core.Path.{_≡_, refl}
 use native.Mathlib.Omega.{arith}
-use Rattle.multilinear.specs.Eq.{eq, bitwise}
 use Rattle.quadratic.specs.Fp2.{TwoParts, fp2}
 use Rattle.quadratic.specs.Quadratic.{twoByTwo, quadratic}
+use Rattle.multilinear.specs.Eq.{eq, bitwise}
 use Rattle.weights.specs.Side.{pairs, Tabled}
 use Rattle.weights_quadratic.specs.Packed.{packed}
 

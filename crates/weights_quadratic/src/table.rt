@@ -72,7 +72,8 @@ fn add_blocks(table: &mut [u64], blocks: usize)
 
 // Writes a block: the weight over no bits is 1. Inner: likewise, for this block.
 fn add_block(table: &mut [u64], block: usize)
-    requires { ⌜ (block < 6) × (448 ≤ length (now table)) × AllProper packed (now table) × Complements packed (5 * block + 5) (now table) ⌝ }
+    requires { ⌜
+        (block < 6) × (448 ≤ length (now table)) × AllProper packed (now table) × Complements packed (5 * block + 5) (now table) ⌝ }
     ensures { λ _. ⌜ BlockGrown packed (now (table .entry)) block 5 (now (table .exit)) ⌝ }
 {
     let one = words::packed(Fp2::one());
@@ -83,7 +84,8 @@ fn add_block(table: &mut [u64], block: usize)
 // Writes the weights of a block over one bit more and one bit more, from the limb's last bit back. Inner: likewise, and the weight over no
 // bits is written.
 fn grow(table: &mut [u64], block: usize)
-    requires { ⌜ (block < 6) × (448 ≤ length (now table)) × AllProper packed (now table) × Complements packed (5 * block + 5) (now table) ⌝ }
+    requires { ⌜
+        (block < 6) × (448 ≤ length (now table)) × AllProper packed (now table) × Complements packed (5 * block + 5) (now table) ⌝ }
     requires { ⌜ elementIn packed (now table) (64 * block + 64 + 1) ≡ fp2 .unit ⌝ }
     ensures { λ _. ⌜ BlockGrown packed (now (table .entry)) block 5 (now (table .exit)) ⌝ }
 {

@@ -1,5 +1,5 @@
 -- `compare::compare` meets its contract: the tables have places for all arrays of short keys, or of any.
-use Rattle.compare.proofs.Agreement.{prime-agreement}
+use Rattle.comparison.proofs.Agreement.{prime-agreement}
 use borrow.Author.Needs.{needs}
 use Rattle.compare.proofs.compare.Statement.{statement}
 use Rattle.compare.proofs.compare.Tie as tie

@@ -7,13 +7,13 @@ use borrow.Author.Needs.{needs}
 use lib.ListN.{length}
 use Rattle.refusal.specs.Outcome.{given}
 use Rattle.quadratic.specs.Quadratic.{quadratic}
-use Rattle.quadratic.proofs.Quadratic.{quadratic-lawful}
+use Rattle.quadratic.proofs.QuadraticLawful.{quadratic-lawful}
 use Rattle.key.specs.Check.{checkedOutcome, checkedKey}
-use Rattle.evaluate.specs.Inner.{AtPoint}
-use Rattle.evaluate.proofs.Concluded.{arrays-counted, at-most-1024, table-indexed}
-use Rattle.compare.specs.Compare.{pairJudged}
-use Rattle.compare.proofs.Comparisons.{promised, first-refused, second-refused, neither-refused}
-use Rattle.compare.proofs.Passes.{first-pass, second-pass, both-passed}
+use Rattle.judge.specs.Inner.{AtPoint}
+use Rattle.judge.specs.Judged.{pairJudged}
+use Rattle.evaluation.proofs.EvaluatePromises.{arrays-counted, at-most-1024, table-indexed}
+use Rattle.comparison.proofs.CompareCases.{promised, first-refused, second-refused, neither-refused}
+use Rattle.comparison.proofs.TwoPasses.{first-pass, second-pass, both-passed}
 use Rattle.compare_quadratic.proofs.by_tables.Statement.{statement}
 use Rattle.compare_quadratic.proofs.by_tables.Tie as tie
 

@@ -7,15 +7,15 @@ use borrow.Author.Needs.{needs}
 use lib.ListN.{length}
 use Rattle.refusal.specs.Outcome.{Outcome, given}
 use Rattle.field.specs.Scalars.{prime}
-use Rattle.field.proofs.Scalars.{prime-lawful}
+use Rattle.field.proofs.PrimeLawful.{prime-lawful}
 use Rattle.key.specs.Check.{checkedKey}
 use Rattle.key.specs.declared.Counts.{Counts}
-use Rattle.evaluate.specs.Judged.{placeJudged}
-use Rattle.evaluate.proofs.Admission.{place-gives}
-use Rattle.evaluate.proofs.AtPlace.{place-point, place-values, place-sheet}
-use Rattle.evaluate.proofs.Concluded.{arrays-counted, at-most-1024, table-indexed, refused-promise, given-promise}
-use Rattle.evaluate.proofs.InTurn.{Judged, Admitted, judged-call, admitted-call, few-arrays, admitted-known}
-use Rattle.evaluate.proofs.Passed.{last-filled, last-extended}
+use Rattle.judge.specs.Judged.{placeJudged}
+use Rattle.judge.proofs.JudgementsInOrder.{Judged, Admitted, judged-call, admitted-call, few-arrays, admitted-known}
+use Rattle.judge.proofs.NothingRefused.{place-gives}
+use Rattle.evaluation.proofs.EvaluatePromises.{arrays-counted, at-most-1024, table-indexed, refused-promise, given-promise}
+use Rattle.evaluation.proofs.PlaceAsPoint.{place-point, place-values, place-sheet}
+use Rattle.evaluation.proofs.SheetAfterPass.{last-filled, last-extended}
 use Rattle.evaluate.proofs.at_place.Statement.{statement}
 use Rattle.evaluate.proofs.at_place.Tie as tie
 

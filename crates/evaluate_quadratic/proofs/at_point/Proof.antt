@@ -7,14 +7,14 @@ use borrow.Author.Needs.{needs}
 use lib.ListN.{length}
 use Rattle.refusal.specs.Outcome.{Outcome, given}
 use Rattle.quadratic.specs.Quadratic.{quadratic}
-use Rattle.quadratic.proofs.Quadratic.{quadratic-lawful}
+use Rattle.quadratic.proofs.QuadraticLawful.{quadratic-lawful}
 use Rattle.key.specs.Check.{checkedKey}
 use Rattle.key.specs.declared.Counts.{Counts}
-use Rattle.evaluate.specs.Judged.{pointJudged}
-use Rattle.evaluate.proofs.Admission.{PointOf, point-gives, at-point}
-use Rattle.evaluate.proofs.Concluded.{arrays-counted, at-most-1024, table-indexed, refused-promise, given-promise}
-use Rattle.evaluate.proofs.InTurn.{Judged, Admitted, judged-call, admitted-call, few-arrays, admitted-known}
-use Rattle.evaluate.proofs.Passed.{last-filled, last-extended}
+use Rattle.judge.specs.Judged.{pointJudged}
+use Rattle.judge.proofs.JudgementsInOrder.{Judged, Admitted, judged-call, admitted-call, few-arrays, admitted-known}
+use Rattle.judge.proofs.NothingRefused.{PointOf, point-gives, at-point}
+use Rattle.evaluation.proofs.EvaluatePromises.{arrays-counted, at-most-1024, table-indexed, refused-promise, given-promise}
+use Rattle.evaluation.proofs.SheetAfterPass.{last-filled, last-extended}
 use Rattle.evaluate_quadratic.proofs.at_point.Statement.{statement}
 use Rattle.evaluate_quadratic.proofs.at_point.Tie as tie
 

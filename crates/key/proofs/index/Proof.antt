@@ -8,12 +8,13 @@ use Rattle.refusal.specs.Number.{numberOf}
 use Rattle.refusal.specs.Outcome.{given}
 use Rattle.records.specs.Take.{takenOutcome, takenAt}
 use Rattle.records.specs.declared.Taken.{Taken}
-use Rattle.key.specs.Inner.{countsSeen, isEnd, notTaken}
+use Rattle.key.specs.Inner.{countsSeen}
+use Rattle.key.specs.Reading.{isEnd}
 use Rattle.key.specs.declared.Checked.{Checked}
-use Rattle.key.proofs.Promises.{too-long, refused-promise, accepted-promise}
-use Rattle.key.proofs.Seeing.{rules-kept}
-use Rattle.key.proofs.Standing.{noted}
-use Rattle.key.proofs.Walk.{stops, breaks, ends, all-noted}
+use Rattle.key.proofs.CheckOneRecord.{stops, breaks, ends, all-noted}
+use Rattle.key.proofs.CheckSoFar.{noted}
+use Rattle.key.proofs.IndexPromises.{too-long, refused-promise, accepted-promise}
+use Rattle.key.proofs.SeenVerdict.{rules-kept}
 use Rattle.key.proofs.index.Statement.{statement}
 use Rattle.key.proofs.index.Tie as tie
 
@@ -50,7 +51,7 @@ returns-2 : tie.Need-returns-2
 returns-2 c =
     let e = c .before .enum-told .given .1 in
     let t = c .before .before .before in
-    refused-promise _ (c .not-taken .result) _ _ _ (c .not-taken .ensures ∙ ap notTaken e)
+    refused-promise _ (c .not-taken .result) _ _ _ (c .not-taken .ensures _ e)
     (stops (t .before .before .before .arrays .ensures .0) _ (sym (t .take .ensures .0) ∙ ap takenOutcome e))
 
 -- the record that was taken

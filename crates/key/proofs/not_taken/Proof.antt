@@ -1,7 +1,8 @@
--- `key::not_taken` meets its contract: the refusal is handed on.
-use mathlib.Core.Path.{sym, ap, _∙_}
+-- `key::not_taken` meets its contract: the refusal is handed on, and a record is none.
+use Prim.Native.Nat.{ℕ}
+use mathlib.Core.Path.{_≡_, sym, _∙_}
+use native.Mathlib.Omega.{arith}
 use borrow.Author.Needs.{needs}
-use Rattle.key.specs.Inner.{notTaken}
 use Rattle.key.proofs.not_taken.Statement.{statement}
 use Rattle.key.proofs.not_taken.Tie as tie
 
@@ -15,10 +16,13 @@ refused-requires : tie.Need-refused-requires
 refused-requires c κs = search needs
 
 returns : tie.Need-returns
-returns c = ap notTaken (sym (c .before .taken .given .1))
+returns c f e = let told = sym (c .before .taken .given .1) ∙ e in cc
 
 returns-2 : tie.Need-returns-2
-returns-2 c = c .refused .ensures ∙ ap notTaken (sym (c .before .before .taken2 .given .1))
+returns-2 c f e =
+    let told = sym (c .before .before .taken2 .given .1) ∙ e in
+    let o : _≡_ {A = ℕ} 0 1 = cc in
+    absurd (omega arith)
 
 pub not-taken-spec : {M : Type 1} → statement M
 not-taken-spec =

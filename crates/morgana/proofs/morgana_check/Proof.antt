@@ -5,8 +5,8 @@ use denote.Ref.{now}
 use borrow.Author.Needs.{needs}
 use Rattle.refusal.specs.Outcome.{given}
 use Rattle.key.specs.Check.{checkedOutcome, checkedKey}
-use Rattle.key.proofs.Few.{cells-few, calls-few}
-use Rattle.evaluate.proofs.Concluded.{at-most-1024}
+use Rattle.key.proofs.CountBounds.{cells-few, calls-few}
+use Rattle.evaluation.proofs.EvaluatePromises.{at-most-1024}
 use Rattle.morgana.specs.Reply.{checkReply}
 use Rattle.morgana.proofs.morgana_check.Statement.{statement}
 use Rattle.morgana.proofs.morgana_check.Tie as tie

@@ -11,9 +11,9 @@ use Rattle.refusal.specs.declared.Reason.{Reason}
 use Rattle.records.specs.Inner.{sizeOf}
 use Rattle.records.specs.Kinds.{encoded}
 use Rattle.records.specs.Put.{Putting}
-use Rattle.records.proofs.Putting.{offset-refused, length-refused, record-put, part-written}
+use Rattle.records.proofs.PutCases.{offset-refused, length-refused, record-put, part-written}
+use Rattle.records.proofs.RecordSizes.{size-encoded}
 use Rattle.records.proofs.RoundTrip.{put-promise, refused-promise}
-use Rattle.records.proofs.Sizes.{size-encoded}
 use Rattle.records.proofs.put.Statement.{statement}
 use Rattle.records.proofs.put.Tie as tie
 

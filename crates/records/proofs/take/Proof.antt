@@ -7,7 +7,7 @@ use Rattle.records.specs.RoundTrip.{WrittenAgain}
 use Rattle.records.specs.Take.{takenOutcome, takenAt}
 use Rattle.records.specs.declared.Taken.{Taken}
 use Rattle.records.proofs.RoundTrip.{take-promise}
-use Rattle.records.proofs.Taking.{offset-refused, missing-refused, unknown-refused, cut-refused, read-given, size-is}
+use Rattle.records.proofs.TakeCases.{offset-refused, missing-refused, unknown-refused, cut-refused, read-given, size-is}
 use Rattle.records.proofs.take.Statement.{statement}
 use Rattle.records.proofs.take.Tie as tie
 

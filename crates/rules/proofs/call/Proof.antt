@@ -8,7 +8,7 @@ use borrow.Author.Needs.{needs}
 use borrow.Author.Tests.{not-true, not-false}
 use Rattle.rules.specs.Inner.{isKept}
 use Rattle.rules.specs.declared.Verdict.{Verdict}
-use Rattle.rules.proofs.CallJudged.{named, not-named, earlier, named-judged}
+use Rattle.rules.proofs.CallRules.{named, not-named, earlier, named-judged}
 use Rattle.rules.proofs.call.Statement.{statement}
 use Rattle.rules.proofs.call.Tie as tie
 

@@ -1,7 +1,7 @@
 -- `rules::outside` meets its contract: a number of 32 bits is below every power from 2^32 on.
 use native.Mathlib.Omega.{arith}
 use borrow.Author.Needs.{needs}
-use Rattle.rules.proofs.Numbers.{one-shl, below-power}
+use Rattle.rules.proofs.PowersOfTwo.{one-shl, below-power}
 use Rattle.rules.proofs.outside.Statement.{statement}
 use Rattle.rules.proofs.outside.Tie as tie
 

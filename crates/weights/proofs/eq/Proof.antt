@@ -7,8 +7,8 @@ use lib.ListN.{length, getD}
 use Rattle.field.specs.Fp.{p, fp}
 use Rattle.field.proofs.FpField.{fp-ring}
 use Rattle.multilinear.specs.Eq.{eqFactor}
-use Rattle.weights.proofs.Multiplying.{Multiplying, multiplying-begun, multiplying-turn, multiplying-done}
-use Rattle.weights.proofs.Singles.{below-at, eq-factor-below}
+use Rattle.weights.proofs.EqProduct.{Multiplying, multiplying-begun, multiplying-turn, multiplying-done}
+use Rattle.weights.proofs.SingleWords.{below-at, eq-factor-below}
 use Rattle.weights.proofs.eq.Statement.{statement}
 use Rattle.weights.proofs.eq.Tie as tie
 

@@ -9,11 +9,11 @@ use Rattle.multilinear.specs.Eq.{eqFactor}
 use Rattle.quadratic.specs.Fp2.{TwoParts, Reduced, fp2}
 use Rattle.quadratic.specs.Parts.{parts}
 use Rattle.quadratic.specs.Quadratic.{quadratic}
-use Rattle.quadratic.proofs.Below.{parts-below, add-below}
 use Rattle.quadratic.proofs.Fp2Field.{fp2-ring}
+use Rattle.quadratic.proofs.PartsBelow.{parts-below, add-below}
 use Rattle.quadratic.proofs.TwoByTwo.{two-count}
-use Rattle.weights.proofs.Multiplying.{Multiplying, multiplying-begun, multiplying-turn, multiplying-done}
-use Rattle.weights_quadratic.proofs.Packed.{element-there}
+use Rattle.weights.proofs.EqProduct.{Multiplying, multiplying-begun, multiplying-turn, multiplying-done}
+use Rattle.weights_quadratic.proofs.PackedWords.{element-there}
 use Rattle.weights_quadratic.proofs.eq.Statement.{statement}
 use Rattle.weights_quadratic.proofs.eq.Tie as tie
 

@@ -3,7 +3,7 @@ use mathlib.Core.Path.{_≡_, ap, ap₂, _∙_}
 use borrow.Author.Needs.{needs}
 use Rattle.quadratic.specs.Fp2.{TwoParts, fp2}
 use Rattle.quadratic.specs.Parts.{parts}
-use Rattle.quadratic.proofs.Below.{parts-below, unit-below, sub-below, mul-below}
+use Rattle.quadratic.proofs.PartsBelow.{parts-below, unit-below, sub-below, mul-below}
 use Rattle.weights_quadratic.proofs.eq_factor.Statement.{statement}
 use Rattle.weights_quadratic.proofs.eq_factor.Tie as tie
 

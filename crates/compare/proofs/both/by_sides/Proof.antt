@@ -6,14 +6,14 @@ use native.Mathlib.Omega.{arith}
 use borrow.Author.Needs.{needs}
 use lib.ListN.{length}
 use Rattle.field.specs.Scalars.{prime}
-use Rattle.field.proofs.Scalars.{prime-lawful}
+use Rattle.field.proofs.PrimeLawful.{prime-lawful}
 use Rattle.weights.specs.Words.{singles}
-use Rattle.weights.proofs.Singles.{singles-lawful}
-use Rattle.evaluate.specs.Sheet.{laid}
-use Rattle.evaluate.proofs.Passed.{last-filled, last-extended}
-use Rattle.evaluate.proofs.Prepared.{sides-ready, sheet-prepared}
-use Rattle.evaluate.proofs.Sheets.{laid-length}
-use Rattle.compare.specs.Compare.{likeness}
+use Rattle.weights.proofs.SingleWords.{singles-lawful}
+use Rattle.evaluation.specs.Sheet.{laid}
+use Rattle.evaluation.proofs.PreparedSides.{sides-ready, sheet-prepared}
+use Rattle.evaluation.proofs.SheetAfterPass.{last-filled, last-extended}
+use Rattle.evaluation.proofs.WordsOnSheet.{laid-length}
+use Rattle.comparison.specs.Compare.{likeness}
 use Rattle.compare.proofs.both.by_sides.Statement.{statement}
 use Rattle.compare.proofs.both.by_sides.Tie as tie
 

@@ -2,9 +2,9 @@
 use mathlib.Core.Path.{sym}
 use borrow.Author.Needs.{needs}
 use Rattle.field.specs.Scalars.{prime}
-use Rattle.field.proofs.Scalars.{prime-lawful}
+use Rattle.field.proofs.PrimeLawful.{prime-lawful}
 use Rattle.arrays.specs.Arrays.{A, B, C}
-use Rattle.compare.proofs.Judgements.{all-equal, part-differs}
+use Rattle.comparison.proofs.Likeness.{all-equal, part-differs}
 use Rattle.compare.proofs.both.likeness.Statement.{statement}
 use Rattle.compare.proofs.both.likeness.Tie as tie
 

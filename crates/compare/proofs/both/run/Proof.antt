@@ -2,8 +2,8 @@
 use native.Mathlib.Omega.{arith}
 use borrow.Author.Needs.{needs}
 use Rattle.weights.specs.Words.{singles}
-use Rattle.weights.proofs.Singles.{singles-lawful}
-use Rattle.weights.proofs.Zeros.{zeros-ready}
+use Rattle.weights.proofs.SingleWords.{singles-lawful}
+use Rattle.weights.proofs.ZeroTable.{zeros-ready}
 use Rattle.compare.proofs.both.run.Statement.{statement}
 use Rattle.compare.proofs.both.run.Tie as tie
 

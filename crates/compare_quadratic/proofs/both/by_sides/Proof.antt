@@ -7,15 +7,15 @@ use denote.Ref.{now}
 use borrow.Author.Needs.{needs}
 use lib.ListN.{length}
 use Rattle.quadratic.specs.Quadratic.{quadratic}
-use Rattle.quadratic.proofs.Quadratic.{quadratic-lawful}
+use Rattle.quadratic.proofs.QuadraticLawful.{quadratic-lawful}
 use Rattle.quadratic.proofs.TwoByTwo.{two-count}
 use Rattle.weights_quadratic.specs.Packed.{packed}
-use Rattle.weights_quadratic.proofs.Packed.{packed-lawful}
-use Rattle.evaluate.specs.Sheet.{laid}
-use Rattle.evaluate.proofs.Passed.{last-filled, last-extended}
-use Rattle.evaluate.proofs.Prepared.{sides-ready, sheet-prepared}
-use Rattle.evaluate.proofs.Sheets.{laid-length}
-use Rattle.compare.specs.Compare.{likeness}
+use Rattle.weights_quadratic.proofs.PackedWords.{packed-lawful}
+use Rattle.evaluation.specs.Sheet.{laid}
+use Rattle.evaluation.proofs.PreparedSides.{sides-ready, sheet-prepared}
+use Rattle.evaluation.proofs.SheetAfterPass.{last-filled, last-extended}
+use Rattle.evaluation.proofs.WordsOnSheet.{laid-length}
+use Rattle.comparison.specs.Compare.{likeness}
 use Rattle.compare_quadratic.proofs.both.by_sides.Statement.{statement}
 use Rattle.compare_quadratic.proofs.both.by_sides.Tie as tie
 

@@ -2,9 +2,9 @@
 use mathlib.Core.Path.{sym, subst}
 use borrow.Author.Needs.{needs}
 use Rattle.quadratic.specs.Quadratic.{quadratic}
-use Rattle.quadratic.proofs.Quadratic.{quadratic-lawful}
+use Rattle.quadratic.proofs.QuadraticLawful.{quadratic-lawful}
 use Rattle.arrays.specs.Arrays.{A, B, C}
-use Rattle.compare.proofs.Judgements.{all-equal, part-differs}
+use Rattle.comparison.proofs.Likeness.{all-equal, part-differs}
 use Rattle.compare_quadratic.specs.Inner.{Told}
 use Rattle.compare_quadratic.proofs.both.likeness.Statement.{statement}
 use Rattle.compare_quadratic.proofs.both.likeness.Tie as tie

@@ -2,8 +2,8 @@
 use native.Mathlib.Omega.{arith}
 use borrow.Author.Needs.{needs}
 use Rattle.weights_quadratic.specs.Packed.{packed}
-use Rattle.weights_quadratic.proofs.Packed.{packed-lawful}
-use Rattle.weights.proofs.Zeros.{zeros-ready}
+use Rattle.weights_quadratic.proofs.PackedWords.{packed-lawful}
+use Rattle.weights.proofs.ZeroTable.{zeros-ready}
 use Rattle.compare_quadratic.proofs.both.run.Statement.{statement}
 use Rattle.compare_quadratic.proofs.both.run.Tie as tie
 

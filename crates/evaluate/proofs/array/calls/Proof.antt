@@ -7,13 +7,14 @@ use Rattle.field.specs.Scalars.{prime}
 use Rattle.weights.specs.Side.{prepared}
 use Rattle.weights.specs.Words.{singles}
 use Rattle.key.specs.KeyArrays.{keyArrays}
-use Rattle.evaluate.specs.Inner.{ReachedIn, reducedIn, Light}
-use Rattle.evaluate.proofs.Added.{calls-done}
-use Rattle.evaluate.proofs.Adding.{CallsLeft, calls-begun}
-use Rattle.evaluate.proofs.Indexing.{accepts, entries-run, opening-inside}
-use Rattle.evaluate.proofs.Sums.{Bounded, bounded-light, bounded-onward}
-use Rattle.evaluate.proofs.Prepared.{rows-further, columns-further}
-use Rattle.evaluate.proofs.Turns.{call-room, call-called, call-added}
+use Rattle.key.proofs.IndexedKey.{accepts, entries-run, opening-inside}
+use Rattle.evaluation.specs.Inner.{ReachedIn}
+use Rattle.evaluation.proofs.NextEntryAdded.{call-room, call-called, call-added}
+use Rattle.evaluation.proofs.PreparedSides.{rows-further, columns-further}
+use Rattle.evaluation.proofs.SumIsArrayValues.{calls-done}
+use Rattle.evaluation.proofs.SumOfEntries.{CallsLeft, calls-begun}
+use Rattle.evaluate.specs.Inner.{reducedIn, Light}
+use Rattle.evaluate.proofs.UnreducedSums.{Bounded, bounded-light, bounded-onward}
 use Rattle.evaluate.proofs.array.calls.Statement.{statement}
 use Rattle.evaluate.proofs.array.calls.Tie as tie
 

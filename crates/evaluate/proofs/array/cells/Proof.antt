@@ -8,13 +8,14 @@ use Rattle.field.specs.Scalars.{prime}
 use Rattle.weights.specs.Side.{prepared}
 use Rattle.weights.specs.Words.{singles}
 use Rattle.key.specs.KeyArrays.{keyArrays}
-use Rattle.evaluate.specs.Inner.{ReachedIn, reducedIn, Light}
-use Rattle.evaluate.proofs.Added.{cells-done}
-use Rattle.evaluate.proofs.Adding.{CellsLeft, cells-begun}
-use Rattle.evaluate.proofs.Indexing.{accepts, entries-run, opening-inside}
-use Rattle.evaluate.proofs.Sums.{Bounded, bounded-light, bounded-onward}
-use Rattle.evaluate.proofs.Prepared.{rows-further, columns-further}
-use Rattle.evaluate.proofs.Turns.{cell-room, cell-below, cell-added}
+use Rattle.key.proofs.IndexedKey.{accepts, entries-run, opening-inside}
+use Rattle.evaluation.specs.Inner.{ReachedIn}
+use Rattle.evaluation.proofs.NextEntryAdded.{cell-room, cell-below, cell-added}
+use Rattle.evaluation.proofs.PreparedSides.{rows-further, columns-further}
+use Rattle.evaluation.proofs.SumIsArrayValues.{cells-done}
+use Rattle.evaluation.proofs.SumOfEntries.{CellsLeft, cells-begun}
+use Rattle.evaluate.specs.Inner.{reducedIn, Light}
+use Rattle.evaluate.proofs.UnreducedSums.{Bounded, bounded-light, bounded-onward}
 use Rattle.evaluate.proofs.array.cells.Statement.{statement}
 use Rattle.evaluate.proofs.array.cells.Tie as tie
 

@@ -5,7 +5,7 @@ use denote.Ref.{now}
 use borrow.Author.Needs.{needs}
 use lib.ListN.{length, getD}
 use Rattle.key.specs.KeyArrays.{keyArrays}
-use Rattle.evaluate.proofs.Indexing.{opening-inside, opens-cells, opens-calls}
+use Rattle.key.proofs.IndexedKey.{opening-inside, opens-cells, opens-calls}
 use Rattle.evaluate.proofs.array.total.Statement.{statement}
 use Rattle.evaluate.proofs.array.total.Tie as tie
 

@@ -1,12 +1,12 @@
--- `evaluate::entry::add_weighed` meets its contract: the two weights are multiplied once, and then one product for each of the three.
+-- `evaluate::entry::add_weighed` meets its contract: the two weights are multiplied once, and then each of the three is added.
 use Prim.Native.Nat.{ℕ, _*_, _%_, _≤_, _<_}
 use mathlib.Core.Path.{_≡_, ap, ap₂, _∙_}
 use native.Mathlib.Nat.{mul-le-mul}
 use native.Mathlib.Omega.{arith}
 use borrow.Author.Needs.{needs}
 use Rattle.field.specs.Fp.{p, fp}
-use Rattle.evaluate.specs.Evaluate.{valuesIn}
-use Rattle.evaluate.proofs.Sums.{Product, grown}
+use Rattle.evaluate.specs.Answer.{valuesIn}
+use Rattle.evaluate.proofs.UnreducedSums.{More, grown}
 use Rattle.evaluate.proofs.entry.add_weighed.Statement.{statement}
 use Rattle.evaluate.proofs.entry.add_weighed.Tie as tie
 
@@ -36,44 +36,28 @@ is : (c : tie.After-product) →
 is c =
     c .product .ensures .0 ∙ ap₂ (λ (x y : ℕ). fp .mul x y) (c .before .before .folded .ensures .0) (c .before .folded2 .ensures .0)
 
-times-requires : tie.Need-times-requires
-times-requires c κs = (small c, c .before .before .before .pre .1 .a-below .0)
+plus-times-requires : tie.Need-plus-times-requires
+plus-times-requires c κs = let a = c .before .before .before in (a .pre .0 .a-light, small c, a .pre .1 .a-below .0)
 
-add-t7 : tie.Need-add-t7
-add-t7 c =
-    let a = c .before .before .before .before .before in
-    omega (arith, c .before .times .ensures .1, small (c .before .before), a .pre .0 .a-light)
+plus-times-requires-2 : tie.Need-plus-times-requires-2
+plus-times-requires-2 c κs =
+    let a = c .before .before .before .before in (a .pre .0 .b-light, small (c .before), a .pre .1 .b-below .0)
 
-times-requires-2 : tie.Need-times-requires-2
-times-requires-2 c κs = (small (c .before .before), c .before .before .before .before .before .pre .1 .b-below .0)
-
-add-t9 : tie.Need-add-t9
-add-t9 c =
-    let a = c .before .before .before .before .before .before .before in
-    omega (arith, c .before .times2 .ensures .1, small (c .before .before .before .before), a .pre .0 .b-light)
-
-times-requires-3 : tie.Need-times-requires-3
-times-requires-3 c κs = (small (c .before .before .before .before), c .before .before .before .before .before .before .before .pre .1 .c-below .0)
-
-add-t11 : tie.Need-add-t11
-add-t11 c =
-    let a = c .before .before .before .before .before .before .before .before .before in
-    omega (arith, c .before .times3 .ensures .1, small (c .before .before .before .before .before .before), a .pre .0 .c-light)
+plus-times-requires-3 : tie.Need-plus-times-requires-3
+plus-times-requires-3 c κs =
+    let a = c .before .before .before .before .before in (a .pre .0 .c-light, small (c .before .before), a .pre .1 .c-below .0)
 
 returns : tie.Need-returns
 returns c =
-    let weighed = c .before .before .before .before .before .before in
+    let weighed = c .before .before .before in
     let a = weighed .before .before .before in
-    let made : (value x : ℕ) → (x % p ≡ fp .mul (weighed .product .result % p) value) × (x < 17179869184) →
-    Product (fp .mul (a .args .row-weight % p) (a .args .column-weight % p)) value x =
-    λ value x e. (e .0 ∙ ap (λ (w : ℕ). fp .mul w value) (is weighed), e .1) in
-    let times = c .before .before .before .before .before .times .ensures in
-    let times2 = c .before .before .before .times2 .ensures in
-    let times3 = c .before .times3 .ensures in
-    grown (a .args .sums) (valuesIn (a .args .values)) _ _ _ _
-    (made _ _ (times .0, omega (arith, times .1, small weighed)))
-    (made _ _ (times2 .0, omega (arith, times2 .1, small weighed)))
-    (made _ _ (times3 .0, omega (arith, times3 .1, small weighed)))
+    let made : (sum value x : ℕ) → More (weighed .product .result % p) sum value x →
+    More (fp .mul (a .args .row-weight % p) (a .args .column-weight % p)) sum value x =
+    λ sum value x e. (e .0 ∙ ap (λ (w : ℕ). fp .add (sum % p) (fp .mul w value)) (is weighed), e .1) in
+    grown (a .args .sums) _ (valuesIn (a .args .values)) _
+    (made _ _ _ (c .before .before .plus-times .ensures))
+    (made _ _ _ (c .before .plus-times2 .ensures))
+    (made _ _ _ (c .plus-times3 .ensures))
 
 pub add-weighed-spec : {M : Type 1} → statement M
 add-weighed-spec =
@@ -82,10 +66,7 @@ add-weighed-spec =
     folded-requires
     folded-requires-2
     product-requires
-    times-requires
-    add-t7
-    times-requires-2
-    add-t9
-    times-requires-3
-    add-t11
+    plus-times-requires
+    plus-times-requires-2
+    plus-times-requires-3
     returns)

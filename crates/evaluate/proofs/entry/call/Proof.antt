@@ -8,7 +8,8 @@ use Rattle.records.specs.declared.Shape.{Shape}
 use Rattle.arrays.specs.Arrays.{Values}
 use Rattle.weights.specs.Side.{prepared}
 use Rattle.weights.specs.Words.{singles}
-use Rattle.evaluate.specs.Inner.{reducedIn, Grown, addedTo}
+use Rattle.evaluation.specs.Inner.{addedTo}
+use Rattle.evaluate.specs.Inner.{reducedIn, Grown}
 use Rattle.evaluate.proofs.entry.call.Statement.{statement}
 use Rattle.evaluate.proofs.entry.call.Tie as tie
 

@@ -6,12 +6,13 @@ use denote.Ref.{now}
 use borrow.Author.Needs.{needs}
 use Rattle.field.specs.Fp.{fp}
 use Rattle.field.specs.Scalars.{prime}
-use Rattle.arrays.specs.Arrays.{Values}
 use Rattle.multilinear.specs.Eq.{bitwise}
+use Rattle.arrays.specs.Arrays.{Values}
 use Rattle.weights.specs.Side.{pairs}
 use Rattle.weights.specs.Words.{singles}
-use Rattle.evaluate.specs.Inner.{reducedIn, Grown, addedTo}
 use Rattle.key.specs.KeyArrays.{cellIn}
+use Rattle.evaluation.specs.Inner.{addedTo}
+use Rattle.evaluate.specs.Inner.{reducedIn, Grown}
 use Rattle.evaluate.proofs.entry.cell.Statement.{statement}
 use Rattle.evaluate.proofs.entry.cell.Tie as tie
 

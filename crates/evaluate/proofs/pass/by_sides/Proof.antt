@@ -2,8 +2,8 @@
 use mathlib.Core.Path.{refl}
 use borrow.Author.Needs.{needs}
 use Rattle.weights.specs.Words.{singles}
-use Rattle.weights.proofs.Singles.{singles-lawful}
-use Rattle.evaluate.proofs.Prepared.{sides-ready, sheet-prepared}
+use Rattle.weights.proofs.SingleWords.{singles-lawful}
+use Rattle.evaluation.proofs.PreparedSides.{sides-ready, sheet-prepared}
 use Rattle.evaluate.proofs.pass.by_sides.Statement.{statement}
 use Rattle.evaluate.proofs.pass.by_sides.Tie as tie
 

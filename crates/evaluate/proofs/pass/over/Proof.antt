@@ -3,13 +3,13 @@ use Prim.Native.Nat.{_*_, _≤_, _-_}
 use native.Mathlib.Omega.{arith}
 use denote.Ref.{now}
 use lib.ListN.{length}
-use Rattle.key.specs.KeyArrays.{keyArrays}
-use Rattle.key.proofs.Acceptance.{acceptance}
 use Rattle.field.specs.Scalars.{prime}
-use Rattle.field.proofs.Scalars.{prime-lawful}
+use Rattle.field.proofs.PrimeLawful.{prime-lawful}
 use Rattle.weights.specs.Side.{prepared}
 use Rattle.weights.specs.Words.{singles}
-use Rattle.evaluate.proofs.Passing.{Passing, passing-begun, passing-length, passing-filled, passing-turn, passing-done}
+use Rattle.key.specs.KeyArrays.{keyArrays}
+use Rattle.key.proofs.Acceptance.{acceptance}
+use Rattle.evaluation.proofs.SheetDuringPass.{Passing, passing-begun, passing-length, passing-filled, passing-turn, passing-done}
 use Rattle.evaluate.proofs.pass.over.Statement.{statement}
 use Rattle.evaluate.proofs.pass.over.Tie as tie
 

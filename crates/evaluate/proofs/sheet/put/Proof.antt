@@ -3,7 +3,7 @@ use native.Mathlib.Omega.{arith}
 use denote.Ref.{now}
 use borrow.Author.Needs.{needs}
 use lib.ListN.{set, length-set}
-use Rattle.evaluate.proofs.Sheets.{three-stores}
+use Rattle.evaluation.proofs.WordsOnSheet.{three-stores}
 use Rattle.evaluate.proofs.sheet.put.Statement.{statement}
 use Rattle.evaluate.proofs.sheet.put.Tie as tie
 

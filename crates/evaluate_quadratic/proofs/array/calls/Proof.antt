@@ -8,14 +8,14 @@ use Rattle.quadratic.specs.Quadratic.{quadratic}
 use Rattle.weights.specs.Side.{prepared}
 use Rattle.weights_quadratic.specs.Packed.{packed}
 use Rattle.key.specs.KeyArrays.{keyArrays}
-use Rattle.evaluate.specs.Inner.{ReachedIn}
+use Rattle.key.proofs.IndexedKey.{accepts, entries-run, opening-inside}
+use Rattle.evaluation.specs.Inner.{ReachedIn}
+use Rattle.evaluation.proofs.NextEntryAdded.{call-room, call-called, call-added}
+use Rattle.evaluation.proofs.PreparedSides.{rows-further, columns-further}
+use Rattle.evaluation.proofs.SumIsArrayValues.{calls-done}
+use Rattle.evaluation.proofs.SumOfEntries.{CallsLeft, calls-begun}
 use Rattle.evaluate_quadratic.specs.Inner.{reducedIn, Light}
-use Rattle.evaluate.proofs.Added.{calls-done}
-use Rattle.evaluate.proofs.Adding.{CallsLeft, calls-begun}
-use Rattle.evaluate.proofs.Indexing.{accepts, entries-run, opening-inside}
-use Rattle.evaluate_quadratic.proofs.Sums.{Bounded, bounded-begun, bounded-light, bounded-onward}
-use Rattle.evaluate.proofs.Prepared.{rows-further, columns-further}
-use Rattle.evaluate.proofs.Turns.{call-room, call-called, call-added}
+use Rattle.evaluate_quadratic.proofs.UnreducedSums.{Bounded, bounded-begun, bounded-light, bounded-onward}
 use Rattle.evaluate_quadratic.proofs.array.calls.Statement.{statement}
 use Rattle.evaluate_quadratic.proofs.array.calls.Tie as tie
 

@@ -9,14 +9,14 @@ use Rattle.quadratic.specs.Quadratic.{quadratic}
 use Rattle.weights.specs.Side.{prepared}
 use Rattle.weights_quadratic.specs.Packed.{packed}
 use Rattle.key.specs.KeyArrays.{keyArrays}
-use Rattle.evaluate.specs.Inner.{ReachedIn}
+use Rattle.key.proofs.IndexedKey.{accepts, entries-run, opening-inside}
+use Rattle.evaluation.specs.Inner.{ReachedIn}
+use Rattle.evaluation.proofs.NextEntryAdded.{cell-room, cell-below, cell-added}
+use Rattle.evaluation.proofs.PreparedSides.{rows-further, columns-further}
+use Rattle.evaluation.proofs.SumIsArrayValues.{cells-done}
+use Rattle.evaluation.proofs.SumOfEntries.{CellsLeft, cells-begun}
 use Rattle.evaluate_quadratic.specs.Inner.{reducedIn, Light}
-use Rattle.evaluate.proofs.Added.{cells-done}
-use Rattle.evaluate.proofs.Adding.{CellsLeft, cells-begun}
-use Rattle.evaluate.proofs.Indexing.{accepts, entries-run, opening-inside}
-use Rattle.evaluate_quadratic.proofs.Sums.{Bounded, bounded-begun, bounded-light, bounded-onward}
-use Rattle.evaluate.proofs.Prepared.{rows-further, columns-further}
-use Rattle.evaluate.proofs.Turns.{cell-room, cell-below, cell-added}
+use Rattle.evaluate_quadratic.proofs.UnreducedSums.{Bounded, bounded-begun, bounded-light, bounded-onward}
 use Rattle.evaluate_quadratic.proofs.array.cells.Statement.{statement}
 use Rattle.evaluate_quadratic.proofs.array.cells.Tie as tie
 

@@ -5,15 +5,15 @@ use borrow.Author.Needs.{needs}
 use Rattle.quadratic.specs.Fp2.{TwoParts, Reduced, fp2}
 use Rattle.quadratic.specs.Quadratic.{quadratic}
 use Rattle.quadratic.specs.Unreduced.{remainders}
-use Rattle.quadratic.proofs.Below.{parts-below}
+use Rattle.quadratic.proofs.PartsBelow.{parts-below}
 use Rattle.records.specs.declared.Shape.{Shape}
 use Rattle.arrays.specs.Arrays.{arrayAt}
 use Rattle.weights.specs.Side.{prepared}
 use Rattle.weights_quadratic.specs.Packed.{packed}
 use Rattle.key.specs.KeyArrays.{keyArrays}
-use Rattle.evaluate.specs.Evaluate.{ValuesOf}
-use Rattle.evaluate.specs.Inner.{sheetValues}
-use Rattle.evaluate_quadratic.proofs.Sums.{plus-weighed, grown}
+use Rattle.evaluation.specs.Evaluate.{ValuesOf}
+use Rattle.evaluation.specs.Inner.{sheetValues}
+use Rattle.evaluate_quadratic.proofs.UnreducedSums.{plus-weighed, grown}
 use Rattle.evaluate_quadratic.proofs.entry.call.Statement.{statement}
 use Rattle.evaluate_quadratic.proofs.entry.call.Tie as tie
 

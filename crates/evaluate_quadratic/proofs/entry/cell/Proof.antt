@@ -4,15 +4,15 @@ use mathlib.Core.Path.{_≡_, ap, ap₂, _∙_}
 use native.Mathlib.Omega.{arith}
 use denote.Ref.{now}
 use borrow.Author.Needs.{needs}
-use Rattle.multilinear.specs.Eq.{bitwise}
 use Rattle.quadratic.specs.Fp2.{TwoParts, fp2}
 use Rattle.quadratic.specs.Quadratic.{quadratic}
 use Rattle.quadratic.specs.Unreduced.{remainders}
+use Rattle.multilinear.specs.Eq.{bitwise}
 use Rattle.weights.specs.Side.{pairs, prepared}
 use Rattle.weights_quadratic.specs.Packed.{packed}
 use Rattle.key.specs.KeyArrays.{cellIn}
-use Rattle.evaluate.specs.Embedded.{sameValuesIn}
-use Rattle.evaluate_quadratic.proofs.Sums.{plus-weighed, grown}
+use Rattle.evaluation.specs.Embedded.{sameValuesIn}
+use Rattle.evaluate_quadratic.proofs.UnreducedSums.{plus-weighed, grown}
 use Rattle.evaluate_quadratic.proofs.entry.cell.Statement.{statement}
 use Rattle.evaluate_quadratic.proofs.entry.cell.Tie as tie
 

@@ -4,8 +4,8 @@ use denote.Ref.{now}
 use borrow.Author.Needs.{needs}
 use Rattle.quadratic.proofs.TwoByTwo.{two-count}
 use Rattle.weights_quadratic.specs.Packed.{packed}
-use Rattle.weights_quadratic.proofs.Packed.{packed-lawful}
-use Rattle.evaluate.proofs.Prepared.{sides-ready, sheet-prepared}
+use Rattle.weights_quadratic.proofs.PackedWords.{packed-lawful}
+use Rattle.evaluation.proofs.PreparedSides.{sides-ready, sheet-prepared}
 use Rattle.evaluate_quadratic.proofs.pass.by_sides.Statement.{statement}
 use Rattle.evaluate_quadratic.proofs.pass.by_sides.Tie as tie
 

@@ -3,13 +3,13 @@ use Prim.Native.Nat.{_*_, _≤_, _-_}
 use native.Mathlib.Omega.{arith}
 use denote.Ref.{now}
 use lib.ListN.{length}
-use Rattle.key.specs.KeyArrays.{keyArrays}
-use Rattle.key.proofs.Acceptance.{acceptance}
 use Rattle.quadratic.specs.Quadratic.{quadratic}
-use Rattle.quadratic.proofs.Quadratic.{quadratic-lawful}
+use Rattle.quadratic.proofs.QuadraticLawful.{quadratic-lawful}
 use Rattle.weights.specs.Side.{prepared}
 use Rattle.weights_quadratic.specs.Packed.{packed}
-use Rattle.evaluate.proofs.Passing.{Passing, passing-begun, passing-length, passing-filled, passing-turn, passing-done}
+use Rattle.key.specs.KeyArrays.{keyArrays}
+use Rattle.key.proofs.Acceptance.{acceptance}
+use Rattle.evaluation.proofs.SheetDuringPass.{Passing, passing-begun, passing-length, passing-filled, passing-turn, passing-done}
 use Rattle.evaluate_quadratic.proofs.pass.over.Statement.{statement}
 use Rattle.evaluate_quadratic.proofs.pass.over.Tie as tie
 

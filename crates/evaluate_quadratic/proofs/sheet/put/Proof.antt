@@ -7,8 +7,8 @@ use borrow.Author.Needs.{needs}
 use lib.Seq.{sets}
 use Rattle.quadratic.specs.Parts.{parts}
 use Rattle.quadratic.specs.Quadratic.{quadratic}
-use Rattle.evaluate_quadratic.specs.Evaluate.{valuesIn}
-use Rattle.evaluate_quadratic.proofs.Stores.{three-stores}
+use Rattle.evaluate_quadratic.specs.Answer.{valuesIn}
+use Rattle.evaluate_quadratic.proofs.StoredElements.{three-stores}
 use Rattle.evaluate_quadratic.proofs.sheet.put.Statement.{statement}
 use Rattle.evaluate_quadratic.proofs.sheet.put.Tie as tie
 

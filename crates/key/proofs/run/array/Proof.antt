@@ -5,7 +5,7 @@ use denote.Ref.{now}
 use borrow.Author.Needs.{needs}
 use lib.ListN.{length-set}
 use Rattle.key.specs.declared.seen.Seen.{Seen}
-use Rattle.key.proofs.Standing.{noted}
+use Rattle.key.proofs.CheckSoFar.{noted}
 use Rattle.key.proofs.run.array.Statement.{statement}
 use Rattle.key.proofs.run.array.Tie as tie
 

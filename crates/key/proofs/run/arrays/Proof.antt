@@ -5,11 +5,12 @@ use native.Mathlib.Omega.{arith}
 use denote.Ref.{now}
 use borrow.Author.Needs.{needs}
 use lib.ListN.{length}
-use Rattle.key.specs.Inner.{opensOrEnds, isEnd, Here, Only}
 use Rattle.rules.specs.Rules.{openingRules}
-use Rattle.key.proofs.RunPassed.{opening-passed, arrays-fewer}
-use Rattle.key.proofs.RunStops.{NoneOpens, only-ends, other-kind, cut-off, opening-broken}
 use Rattle.rules.proofs.Verdicts.{told-kept, told-broken}
+use Rattle.key.specs.Inner.{opensOrEnds, Here, Only}
+use Rattle.key.specs.Reading.{isEnd}
+use Rattle.key.proofs.BehindRuns.{opening-passed, arrays-fewer}
+use Rattle.key.proofs.WhereRunsStop.{NoneOpens, only-ends, other-kind, cut-off, opening-broken}
 use Rattle.key.proofs.run.arrays.Statement.{statement}
 use Rattle.key.proofs.run.arrays.Tie as tie
 

@@ -5,7 +5,7 @@ use borrow.Author.Needs.{needs}
 use Rattle.records.specs.Kinds.{callOf}
 use Rattle.records.specs.declared.Record.{Record}
 use Rattle.rules.specs.Inner.{isKept, callRulesIn}
-use Rattle.key.proofs.RunTried.{fails-other, tried}
+use Rattle.key.proofs.RecordTried.{fails-other, tried}
 use Rattle.key.proofs.run.call_kept.Statement.{statement}
 use Rattle.key.proofs.run.call_kept.Tie as tie
 

@@ -6,7 +6,7 @@ use Rattle.records.specs.Kinds.{cellOf}
 use Rattle.records.specs.declared.Record.{Record}
 use Rattle.rules.specs.Inner.{isKept}
 use Rattle.rules.specs.Rules.{cellRules}
-use Rattle.key.proofs.RunTried.{fails-other, tried}
+use Rattle.key.proofs.RecordTried.{fails-other, tried}
 use Rattle.key.proofs.run.cell_kept.Statement.{statement}
 use Rattle.key.proofs.run.cell_kept.Tie as tie
 

@@ -7,7 +7,7 @@ use borrow.Author.Needs.{needs}
 use lib.ListN.{length}
 use Rattle.records.specs.declared.Record.{Record}
 use Rattle.rules.specs.Rules.{cellRules}
-use Rattle.key.proofs.RunGrows.{Gone, gone-on, gone-up-to, gone-to-the-end}
+use Rattle.key.proofs.RunOneEntryMore.{Gone, gone-on, gone-up-to, gone-to-the-end}
 use Rattle.key.proofs.run.cells.Statement.{statement}
 use Rattle.key.proofs.run.cells.Tie as tie
 

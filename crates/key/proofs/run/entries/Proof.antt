@@ -4,9 +4,9 @@ use native.Mathlib.Omega.{arith}
 use denote.Ref.{now}
 use borrow.Author.Needs.{needs}
 use Rattle.key.specs.Inner.{passed}
-use Rattle.key.proofs.RunPassed.{run-inside, cells-walked, calls-walked}
-use Rattle.key.proofs.RunStops.{late-head, not-sparse, not-recursive, only-opens}
-use Rattle.key.proofs.Standing.{counts-most, noted}
+use Rattle.key.proofs.BehindRuns.{run-inside, cells-walked, calls-walked}
+use Rattle.key.proofs.CheckSoFar.{counts-most, noted}
+use Rattle.key.proofs.WhereRunsStop.{late-head, not-sparse, not-recursive, only-opens}
 use Rattle.key.proofs.run.entries.Statement.{statement}
 use Rattle.key.proofs.run.entries.Tie as tie
 

@@ -12,10 +12,10 @@ use Rattle.records.specs.declared.Record.{Record}
 use Rattle.key.specs.Inner.{opensOrEnds, seenIn, Here, Only, Fails}
 use Rattle.rules.specs.Rules.{headRules}
 use Rattle.key.specs.declared.seen.Seen.{Seen}
-use Rattle.key.proofs.RunPassed.{head-passed}
-use Rattle.key.proofs.RunStops.{only-opens-first, only-opens-next}
-use Rattle.key.proofs.RunTried.{fails-other, fails-short, fails-broken}
-use Rattle.key.proofs.Standing.{begins}
+use Rattle.key.proofs.BehindRuns.{head-passed}
+use Rattle.key.proofs.CheckSoFar.{begins}
+use Rattle.key.proofs.RecordTried.{fails-other, fails-short, fails-broken}
+use Rattle.key.proofs.WhereRunsStop.{only-opens-first, only-opens-next}
 use Rattle.rules.proofs.Verdicts.{told-kept, told-broken}
 use Rattle.key.proofs.run.head.Statement.{statement}
 use Rattle.key.proofs.run.head.Tie as tie

@@ -1,7 +1,7 @@
 -- `morgana::reply::of_compared` meets its contract.
 use mathlib.Core.Path.{_≡_, sym, ap}
 use borrow.Author.Needs.{needs}
-use Rattle.compare.specs.Compare.{comparedAnswer}
+use Rattle.compare.specs.Answer.{comparedAnswer}
 use Rattle.compare.specs.declared.Compared.{Compared}
 use Rattle.morgana.specs.Reply.{compareReply}
 use Rattle.morgana.proofs.reply.of_compared.Statement.{statement}

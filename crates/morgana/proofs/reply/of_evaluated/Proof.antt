@@ -1,7 +1,7 @@
 -- `morgana::reply::of_evaluated` meets its contract.
 use mathlib.Core.Path.{_≡_, sym, ap}
 use borrow.Author.Needs.{needs}
-use Rattle.evaluate.specs.Evaluate.{evaluatedOutcome}
+use Rattle.evaluate.specs.Answer.{evaluatedOutcome}
 use Rattle.evaluate.specs.declared.Evaluated.{Evaluated}
 use Rattle.morgana.specs.Reply.{evaluateReply}
 use Rattle.morgana.proofs.reply.of_evaluated.Statement.{statement}

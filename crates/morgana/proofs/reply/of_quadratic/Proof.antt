@@ -1,7 +1,7 @@
 -- `morgana::reply::of_quadratic` meets its contract.
 use mathlib.Core.Path.{_≡_, sym, ap}
 use borrow.Author.Needs.{needs}
-use Rattle.evaluate_quadratic.specs.Evaluate.{evaluatedOutcome}
+use Rattle.evaluate_quadratic.specs.Answer.{evaluatedOutcome}
 use Rattle.evaluate_quadratic.specs.declared.Evaluated.{Evaluated}
 use Rattle.morgana.specs.Reply.{quadraticReply}
 use Rattle.morgana.proofs.reply.of_quadratic.Statement.{statement}

@@ -4,7 +4,7 @@ use mathlib.Core.Path.{refl}
 use borrow.Author.Needs.{needs}
 use native.Mathlib.Omega.{arith}
 use native.Mathlib.Nat.{mod-lt}
-use Rattle.products.proofs.Filling.{Filling, filling-turn, filling-done}
+use Rattle.products.proofs.FilledNumbers.{Filling, filling-turn, filling-done}
 use Rattle.products.proofs.input.fill.Statement.{statement}
 use Rattle.products.proofs.input.fill.Tie as tie
 

@@ -2,8 +2,8 @@
 use borrow.Author.Needs.{needs}
 use native.Mathlib.Omega.{arith}
 use Rattle.weights.specs.Words.{singles}
-use Rattle.weights.proofs.Singles.{singles-lawful}
-use Rattle.weights.proofs.Zeros.{zeros-ready}
+use Rattle.weights.proofs.SingleWords.{singles-lawful}
+use Rattle.weights.proofs.ZeroTable.{zeros-ready}
 use Rattle.products.proofs.sides.weights.Statement.{statement}
 use Rattle.products.proofs.sides.weights.Tie as tie
 

@@ -1,7 +1,7 @@
 -- `quadratic::unreduced::two_products` meets its contract: 64 bits have room for the sum.
 use mathlib.Core.Path.{refl}
 use native.Mathlib.Omega.{arith}
-use Rattle.quadratic.proofs.Sizes.{sum-fits}
+use Rattle.quadratic.proofs.UnreducedSizes.{sum-fits}
 use Rattle.quadratic.proofs.unreduced.two_products.Statement.{statement}
 use Rattle.quadratic.proofs.unreduced.two_products.Tie as tie
 

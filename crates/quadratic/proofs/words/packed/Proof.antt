@@ -2,7 +2,7 @@
 use mathlib.Core.Path.{_∙_}
 use native.Mathlib.Omega.{arith}
 use borrow.Author.Needs.{needs}
-use Rattle.quadratic.proofs.Packing.{word-of}
+use Rattle.quadratic.proofs.ElementInWord.{word-of}
 use Rattle.quadratic.proofs.Products.{parts-equal}
 use Rattle.quadratic.proofs.words.packed.Statement.{statement}
 use Rattle.quadratic.proofs.words.packed.Tie as tie

@@ -2,7 +2,7 @@
 use mathlib.Core.List.{[], _∷_}
 use denote.Ref.{now}
 use borrow.Author.Needs.{needs}
-use Rattle.records.proofs.Fields.{fields-at}
+use Rattle.records.proofs.FieldBytes.{fields-at}
 use Rattle.records.proofs.read.call.Statement.{statement}
 use Rattle.records.proofs.read.call.Tie as tie
 

@@ -2,7 +2,7 @@
 use native.Mathlib.Omega.{arith}
 use denote.Ref.{now}
 use borrow.Author.Needs.{needs}
-use Rattle.records.proofs.Numbers.{four-bytes-in}
+use Rattle.records.proofs.NumberBytes.{four-bytes-in}
 use Rattle.records.proofs.read.four_bytes.Statement.{statement}
 use Rattle.records.proofs.read.four_bytes.Tie as tie
 

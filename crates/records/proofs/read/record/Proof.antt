@@ -4,7 +4,7 @@ use mathlib.Core.Path.{_≡_, refl, ap}
 use native.Mathlib.Omega.{arith}
 use Rattle.records.specs.Kinds.{widthsOf}
 use Rattle.records.specs.Layout.{total}
-use Rattle.records.proofs.Sizes.{end-kind}
+use Rattle.records.proofs.RecordSizes.{end-kind}
 use Rattle.records.proofs.read.record.Statement.{statement}
 use Rattle.records.proofs.read.record.Tie as tie
 

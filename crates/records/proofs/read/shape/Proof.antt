@@ -4,8 +4,8 @@ use mathlib.Core.List.{[], _∷_}
 use native.Mathlib.Omega.{arith}
 use denote.Ref.{now}
 use borrow.Author.Needs.{needs}
-use Rattle.records.proofs.Fields.{fields-at}
-use Rattle.records.proofs.Numbers.{byte-in}
+use Rattle.records.proofs.FieldBytes.{fields-at}
+use Rattle.records.proofs.NumberBytes.{byte-in}
 use Rattle.records.proofs.read.shape.Statement.{statement}
 use Rattle.records.proofs.read.shape.Tie as tie
 

@@ -2,7 +2,7 @@
 use native.Mathlib.Omega.{arith}
 use denote.Ref.{now}
 use borrow.Author.Needs.{needs}
-use Rattle.records.proofs.Numbers.{two-bytes-in}
+use Rattle.records.proofs.NumberBytes.{two-bytes-in}
 use Rattle.records.proofs.read.two_bytes.Statement.{statement}
 use Rattle.records.proofs.read.two_bytes.Tie as tie
 

@@ -9,9 +9,9 @@ use Rattle.field.specs.Fp.{p, fp}
 use Rattle.multilinear.specs.Eq.{bitwise}
 use Rattle.weights.specs.Words.{singles}
 use Rattle.weights.specs.Side.{pairs}
-use Rattle.weights.proofs.Factors.{factor-alone, part-proper, fours-end, fours-whole, fours-weight}
-use Rattle.weights.proofs.Singles.{singles-lawful}
+use Rattle.weights.proofs.SingleWords.{singles-lawful}
 use Rattle.weights.proofs.SmallWeights.{weighs-read, weighs-onward}
+use Rattle.weights.proofs.TableFactors.{factor-alone, part-proper, fours-end, fours-whole, fours-weight}
 use Rattle.weights.proofs.bits.bit_by_bit.Statement.{statement}
 use Rattle.weights.proofs.bits.bit_by_bit.Tie as tie
 

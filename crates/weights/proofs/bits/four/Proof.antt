@@ -6,9 +6,9 @@ use denote.Ref.{now}
 use borrow.Author.Needs.{needs}
 use Rattle.field.specs.Fp.{p, fp}
 use Rattle.weights.specs.Words.{singles}
-use Rattle.weights.proofs.Factors.{four-factors}
-use Rattle.weights.proofs.Singles.{singles-lawful}
+use Rattle.weights.proofs.SingleWords.{singles-lawful}
 use Rattle.weights.proofs.SmallWeights.{four-small}
+use Rattle.weights.proofs.TableFactors.{four-factors}
 use Rattle.weights.proofs.bits.four.Statement.{statement}
 use Rattle.weights.proofs.bits.four.Tie as tie
 

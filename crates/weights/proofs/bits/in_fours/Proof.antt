@@ -10,10 +10,10 @@ use Rattle.field.proofs.FpField.{fp-ring}
 use Rattle.multilinear.specs.Eq.{bitwise}
 use Rattle.weights.specs.Words.{singles}
 use Rattle.weights.specs.Side.{pairs, AllProper, Small}
-use Rattle.weights.proofs.Factors.{part-length, part-weight, part-proper}
-use Rattle.weights.proofs.Singles.{remainder-valid, singles-lawful}
+use Rattle.weights.proofs.SingleWords.{remainder-valid, singles-lawful}
 use Rattle.weights.proofs.SmallWeights.{four-fits}
-use Rattle.weights.proofs.Weighing.{Weighing, weighing-start, weighing-onward, weighing-left, weighing-done}
+use Rattle.weights.proofs.TableFactors.{part-length, part-weight, part-proper}
+use Rattle.weights.proofs.WeightProduct.{Weighing, weighing-start, weighing-onward, weighing-left, weighing-done}
 use Rattle.weights.proofs.bits.in_fours.Statement.{statement}
 use Rattle.weights.proofs.bits.in_fours.Tie as tie
 

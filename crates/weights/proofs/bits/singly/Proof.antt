@@ -1,5 +1,5 @@
 -- `weights::bits::singly` meets its contract: one factor a turn.
-use Prim.Native.Nat.{ℕ, _-_, _%_, _<_}
+use Prim.Native.Nat.{ℕ, _-_, _%_}
 use mathlib.Core.Path.{refl, ap, _∙_}
 use native.Mathlib.Omega.{arith}
 use denote.Ref.{now}
@@ -8,9 +8,9 @@ use Rattle.field.proofs.FpField.{fp-ring}
 use Rattle.multilinear.specs.Eq.{bitwise}
 use Rattle.weights.specs.Words.{singles}
 use Rattle.weights.specs.Side.{pairs, Small}
-use Rattle.weights.proofs.Factors.{factor-alone}
-use Rattle.weights.proofs.Singles.{remainder-valid, singles-lawful}
-use Rattle.weights.proofs.Weighing.{Weighing, weighing-onward, weighing-done}
+use Rattle.weights.proofs.SingleWords.{remainder-valid, singles-lawful}
+use Rattle.weights.proofs.TableFactors.{factor-alone}
+use Rattle.weights.proofs.WeightProduct.{Weighing, weighing-onward, weighing-done}
 use Rattle.weights.proofs.bits.singly.Statement.{statement}
 use Rattle.weights.proofs.bits.singly.Tie as tie
 

@@ -7,7 +7,7 @@ use borrow.Author.Needs.{needs}
 use lib.ListN.{length}
 use Rattle.weights.specs.Words.{singles}
 use Rattle.weights.proofs.LimbWeights.{size, size-some, offset-small, limb-inside, limb-holds}
-use Rattle.weights.proofs.Singles.{singles-lawful}
+use Rattle.weights.proofs.SingleWords.{singles-lawful}
 use Rattle.weights.proofs.limbs.limb_weight.Statement.{statement}
 use Rattle.weights.proofs.limbs.limb_weight.Tie as tie
 

@@ -10,9 +10,9 @@ use Rattle.multilinear.specs.Eq.{bitwise}
 use Rattle.weights.specs.Words.{singles}
 use Rattle.weights.specs.Side.{pairs}
 use Rattle.weights.proofs.LimbWeights.{fewer}
-use Rattle.weights.proofs.Singles.{remainder-valid}
+use Rattle.weights.proofs.SingleWords.{remainder-valid}
 use Rattle.weights.proofs.SmallWeights.{small-onward}
-use Rattle.weights.proofs.Weighing.{Weighing, weighing-begun, weighing-onward, weighing-done}
+use Rattle.weights.proofs.WeightProduct.{Weighing, weighing-begun, weighing-onward, weighing-done}
 use Rattle.weights.proofs.limbs.whole_limbs.Statement.{statement}
 use Rattle.weights.proofs.limbs.whole_limbs.Tie as tie
 

@@ -7,7 +7,7 @@ use borrow.Author.Needs.{needs}
 use Rattle.weights.specs.Words.{singles}
 use Rattle.weights.specs.Side.{filled}
 use Rattle.weights.proofs.Reach.{reaches-so-far, reaches-end}
-use Rattle.weights.proofs.Singles.{singles-lawful}
+use Rattle.weights.proofs.SingleWords.{singles-lawful}
 use Rattle.weights.proofs.side.reach.Statement.{statement}
 use Rattle.weights.proofs.side.reach.Tie as tie
 

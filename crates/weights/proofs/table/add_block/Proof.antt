@@ -3,7 +3,7 @@ use native.Mathlib.Omega.{arith}
 use denote.Ref.{now}
 use borrow.Author.Needs.{needs}
 use Rattle.weights.specs.Words.{singles}
-use Rattle.weights.proofs.Growing.{block-begun, block-made}
+use Rattle.weights.proofs.OneLimbBlock.{block-begun, block-made}
 use Rattle.weights.proofs.table.add_block.Statement.{statement}
 use Rattle.weights.proofs.table.add_block.Tie as tie
 

@@ -5,7 +5,7 @@ use native.Mathlib.Omega.{arith}
 use denote.Ref.{now}
 use Rattle.weights.specs.Words.{singles}
 use Rattle.weights.specs.Side.{BlocksMade}
-use Rattle.weights.proofs.Blocks.{blocks-begun, blocks-inside, blocks-turn}
+use Rattle.weights.proofs.AllLimbBlocks.{blocks-begun, blocks-inside, blocks-turn}
 use Rattle.weights.proofs.table.add_blocks.Statement.{statement}
 use Rattle.weights.proofs.table.add_blocks.Tie as tie
 

@@ -6,7 +6,7 @@ use denote.Ref.{now}
 use lib.ListN.{length}
 use Rattle.weights.specs.Words.{singles}
 use Rattle.weights.specs.Side.{FilledUp}
-use Rattle.weights.proofs.Pairs.{filling-begun, filling-turn}
+use Rattle.weights.proofs.FactorsWritten.{filling-begun, filling-turn}
 use Rattle.weights.proofs.table.fill_up.Statement.{statement}
 use Rattle.weights.proofs.table.fill_up.Tie as tie
 

@@ -7,8 +7,8 @@ use lib.ListN.{length}
 use lib.Pow.{pow-mono}
 use Rattle.weights.specs.Words.{singles}
 use Rattle.weights.specs.Side.{BlockGrown}
-use Rattle.weights.proofs.Growing.{growing-begun, growing-turn}
-use Rattle.weights.proofs.Sizes.{size-is}
+use Rattle.weights.proofs.LimbSizes.{size-is}
+use Rattle.weights.proofs.OneLimbBlock.{growing-begun, growing-turn}
 use Rattle.weights.proofs.table.grow.Statement.{statement}
 use Rattle.weights.proofs.table.grow.Tie as tie
 

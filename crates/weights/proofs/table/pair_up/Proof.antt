@@ -7,8 +7,8 @@ use lib.ListN.{length, getD}
 use Rattle.field.specs.Fp.{p}
 use Rattle.weights.specs.Words.{singles}
 use Rattle.weights.specs.Side.{Paired}
-use Rattle.weights.proofs.Pairs.{pairing-begun, pairing-turn}
-use Rattle.weights.proofs.Singles.{below-at, sub-below, singles-lawful}
+use Rattle.weights.proofs.FactorsWritten.{pairing-begun, pairing-turn}
+use Rattle.weights.proofs.SingleWords.{below-at, sub-below, singles-lawful}
 use Rattle.weights.proofs.table.pair_up.Statement.{statement}
 use Rattle.weights.proofs.table.pair_up.Tie as tie
 

@@ -3,8 +3,8 @@ use mathlib.Core.Path.{refl}
 use denote.Ref.{now}
 use borrow.Author.Needs.{needs}
 use Rattle.weights.specs.Words.{singles}
-use Rattle.weights.proofs.Singles.{valid-at, singles-lawful}
-use Rattle.weights.proofs.Tables.{tabled-short, blocks-fit, tabled-long}
+use Rattle.weights.proofs.PreparedTable.{tabled-short, blocks-fit, tabled-long}
+use Rattle.weights.proofs.SingleWords.{valid-at, singles-lawful}
 use Rattle.weights.proofs.table.prepare.Statement.{statement}
 use Rattle.weights.proofs.table.prepare.Tie as tie
 

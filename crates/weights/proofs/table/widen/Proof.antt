@@ -6,8 +6,8 @@ use denote.Ref.{now}
 use lib.ListN.{length}
 use Rattle.weights.specs.Words.{singles}
 use Rattle.weights.specs.Side.{Widened}
-use Rattle.weights.proofs.Singles.{mul-below, sub-below, valid-below, singles-lawful}
-use Rattle.weights.proofs.Widening.{widening-begun, widening-turn}
+use Rattle.weights.proofs.OneBitMore.{widening-begun, widening-turn}
+use Rattle.weights.proofs.SingleWords.{mul-below, sub-below, valid-below, singles-lawful}
 use Rattle.weights.proofs.table.widen.Statement.{statement}
 use Rattle.weights.proofs.table.widen.Tie as tie
 

@@ -7,13 +7,13 @@ use borrow.Author.Needs.{needs}
 use Rattle.multilinear.specs.Eq.{bitwise}
 use Rattle.quadratic.specs.Fp2.{fp2}
 use Rattle.quadratic.specs.Unreduced.{remainders}
-use Rattle.quadratic.proofs.Below.{parts-below, unit-below}
 use Rattle.quadratic.proofs.Fp2Field.{fp2-ring}
+use Rattle.quadratic.proofs.PartsBelow.{parts-below, unit-below}
 use Rattle.weights.specs.Side.{pairs}
-use Rattle.weights.proofs.Factors.{factor-alone}
-use Rattle.weights.proofs.Weighing.{weight-read, weight-onward}
+use Rattle.weights.proofs.TableFactors.{factor-alone}
+use Rattle.weights.proofs.WeightProduct.{weight-read, weight-onward}
 use Rattle.weights_quadratic.specs.Packed.{packed}
-use Rattle.weights_quadratic.proofs.Packed.{packed-lawful}
+use Rattle.weights_quadratic.proofs.PackedWords.{packed-lawful}
 use Rattle.weights_quadratic.proofs.bits.bit_by_bit.Statement.{statement}
 use Rattle.weights_quadratic.proofs.bits.bit_by_bit.Tie as tie
 

@@ -1,6 +1,6 @@
 -- `weights_quadratic::bits::single` meets its contract: it reads the factor's place.
 use borrow.Author.Needs.{needs}
-use Rattle.quadratic.proofs.Below.{parts-below}
+use Rattle.quadratic.proofs.PartsBelow.{parts-below}
 use Rattle.weights_quadratic.proofs.bits.single.Statement.{statement}
 use Rattle.weights_quadratic.proofs.bits.single.Tie as tie
 

@@ -9,10 +9,10 @@ use Rattle.quadratic.specs.Parts.{parts}
 use Rattle.quadratic.specs.Unreduced.{remainders, Small}
 use Rattle.quadratic.proofs.Fp2Field.{fp2-ring}
 use Rattle.weights.specs.Side.{pairs}
-use Rattle.weights.proofs.Factors.{factor-alone}
-use Rattle.weights.proofs.Weighing.{Weighing, weighing-onward, weighing-done}
+use Rattle.weights.proofs.TableFactors.{factor-alone}
+use Rattle.weights.proofs.WeightProduct.{Weighing, weighing-onward, weighing-done}
 use Rattle.weights_quadratic.specs.Packed.{packed}
-use Rattle.weights_quadratic.proofs.Packed.{remainders-valid, packed-lawful}
+use Rattle.weights_quadratic.proofs.PackedWords.{remainders-valid, packed-lawful}
 use Rattle.weights_quadratic.proofs.bits.singly.Statement.{statement}
 use Rattle.weights_quadratic.proofs.bits.singly.Tie as tie
 

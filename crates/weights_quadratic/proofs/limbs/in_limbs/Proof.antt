@@ -7,11 +7,11 @@ use borrow.Author.Needs.{needs}
 use Rattle.multilinear.specs.Eq.{bitwise}
 use Rattle.quadratic.specs.Fp2.{fp2}
 use Rattle.quadratic.specs.Parts.{parts}
-use Rattle.quadratic.proofs.Below.{parts-below, unit-below}
 use Rattle.quadratic.proofs.Fp2Field.{fp2-ring}
+use Rattle.quadratic.proofs.PartsBelow.{parts-below, unit-below}
 use Rattle.weights.specs.Side.{pairs}
 use Rattle.weights.proofs.LimbWeights.{fewer}
-use Rattle.weights.proofs.Weighing.{weight-read, weight-onward}
+use Rattle.weights.proofs.WeightProduct.{weight-read, weight-onward}
 use Rattle.weights_quadratic.specs.Packed.{packed}
 use Rattle.weights_quadratic.proofs.limbs.in_limbs.Statement.{statement}
 use Rattle.weights_quadratic.proofs.limbs.in_limbs.Tie as tie

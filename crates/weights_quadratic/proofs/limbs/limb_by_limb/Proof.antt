@@ -6,7 +6,7 @@ use Rattle.quadratic.specs.Fp2.{fp2}
 use Rattle.quadratic.specs.Unreduced.{remainders}
 use Rattle.quadratic.proofs.Fp2Field.{fp2-ring}
 use Rattle.weights.specs.Side.{pairs}
-use Rattle.weights.proofs.Weighing.{weight-onward}
+use Rattle.weights.proofs.WeightProduct.{weight-onward}
 use Rattle.weights_quadratic.specs.Packed.{packed}
 use Rattle.weights_quadratic.proofs.limbs.limb_by_limb.Statement.{statement}
 use Rattle.weights_quadratic.proofs.limbs.limb_by_limb.Tie as tie

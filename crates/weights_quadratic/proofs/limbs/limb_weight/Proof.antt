@@ -5,10 +5,10 @@ use native.Mathlib.Omega.{arith}
 use denote.Ref.{now}
 use borrow.Author.Needs.{needs}
 use lib.ListN.{length}
-use Rattle.quadratic.proofs.Below.{parts-below}
+use Rattle.quadratic.proofs.PartsBelow.{parts-below}
 use Rattle.weights.proofs.LimbWeights.{size, size-some, offset-small, limb-inside, limb-holds}
 use Rattle.weights_quadratic.specs.Packed.{packed}
-use Rattle.weights_quadratic.proofs.Packed.{packed-lawful}
+use Rattle.weights_quadratic.proofs.PackedWords.{packed-lawful}
 use Rattle.weights_quadratic.proofs.limbs.limb_weight.Statement.{statement}
 use Rattle.weights_quadratic.proofs.limbs.limb_weight.Tie as tie
 

@@ -10,9 +10,9 @@ use Rattle.quadratic.specs.Unreduced.{remainders, Small}
 use Rattle.quadratic.proofs.Fp2Field.{fp2-ring}
 use Rattle.weights.specs.Side.{pairs}
 use Rattle.weights.proofs.LimbWeights.{fewer}
-use Rattle.weights.proofs.Weighing.{Weighing, weighing-begun, weighing-onward, weighing-done}
+use Rattle.weights.proofs.WeightProduct.{Weighing, weighing-begun, weighing-onward, weighing-done}
 use Rattle.weights_quadratic.specs.Packed.{packed}
-use Rattle.weights_quadratic.proofs.Packed.{remainders-valid}
+use Rattle.weights_quadratic.proofs.PackedWords.{remainders-valid}
 use Rattle.weights_quadratic.proofs.limbs.whole_limbs.Statement.{statement}
 use Rattle.weights_quadratic.proofs.limbs.whole_limbs.Tie as tie
 

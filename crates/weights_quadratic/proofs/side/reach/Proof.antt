@@ -7,7 +7,7 @@ use borrow.Author.Needs.{needs}
 use Rattle.weights.specs.Side.{filled}
 use Rattle.weights.proofs.Reach.{reaches-so-far, reaches-end}
 use Rattle.weights_quadratic.specs.Packed.{packed}
-use Rattle.weights_quadratic.proofs.Packed.{packed-lawful}
+use Rattle.weights_quadratic.proofs.PackedWords.{packed-lawful}
 use Rattle.weights_quadratic.proofs.side.reach.Statement.{statement}
 use Rattle.weights_quadratic.proofs.side.reach.Tie as tie
 

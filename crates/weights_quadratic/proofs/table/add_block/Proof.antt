@@ -2,10 +2,10 @@
 use mathlib.Core.Path.{_∙_}
 use denote.Ref.{now}
 use borrow.Author.Needs.{needs}
-use Rattle.quadratic.proofs.Below.{unit-below}
-use Rattle.weights.proofs.Growing.{block-begun, block-made}
+use Rattle.quadratic.proofs.PartsBelow.{unit-below}
+use Rattle.weights.proofs.OneLimbBlock.{block-begun, block-made}
 use Rattle.weights_quadratic.specs.Packed.{packed}
-use Rattle.weights_quadratic.proofs.Packed.{proper-word}
+use Rattle.weights_quadratic.proofs.PackedWords.{proper-word}
 use Rattle.weights_quadratic.proofs.table.add_block.Statement.{statement}
 use Rattle.weights_quadratic.proofs.table.add_block.Tie as tie
 

@@ -4,7 +4,7 @@ use mathlib.Core.Path.{_≡_, subst}
 use native.Mathlib.Omega.{arith}
 use denote.Ref.{now}
 use Rattle.weights.specs.Side.{BlocksMade}
-use Rattle.weights.proofs.Blocks.{blocks-begun, blocks-inside, blocks-turn}
+use Rattle.weights.proofs.AllLimbBlocks.{blocks-begun, blocks-inside, blocks-turn}
 use Rattle.weights_quadratic.specs.Packed.{packed}
 use Rattle.weights_quadratic.proofs.table.add_blocks.Statement.{statement}
 use Rattle.weights_quadratic.proofs.table.add_blocks.Tie as tie

@@ -4,11 +4,11 @@ use mathlib.Core.Path.{_≡_, subst, _∙_}
 use native.Mathlib.Omega.{arith}
 use denote.Ref.{now}
 use lib.ListN.{length}
-use Rattle.quadratic.proofs.Below.{nought-below, unit-below}
+use Rattle.quadratic.proofs.PartsBelow.{nought-below, unit-below}
 use Rattle.weights.specs.Side.{FilledUp}
-use Rattle.weights.proofs.Pairs.{filling-begun, filling-turn}
+use Rattle.weights.proofs.FactorsWritten.{filling-begun, filling-turn}
 use Rattle.weights_quadratic.specs.Packed.{packed}
-use Rattle.weights_quadratic.proofs.Packed.{proper-word}
+use Rattle.weights_quadratic.proofs.PackedWords.{proper-word}
 use Rattle.weights_quadratic.proofs.table.fill_up.Statement.{statement}
 use Rattle.weights_quadratic.proofs.table.fill_up.Tie as tie
 

@@ -6,10 +6,10 @@ use denote.Ref.{now}
 use lib.ListN.{length}
 use lib.Pow.{pow-mono}
 use Rattle.quadratic.specs.Parts.{parts}
-use Rattle.quadratic.proofs.Below.{parts-below}
+use Rattle.quadratic.proofs.PartsBelow.{parts-below}
 use Rattle.weights.specs.Side.{BlockGrown}
-use Rattle.weights.proofs.Growing.{growing-begun, growing-turn}
-use Rattle.weights.proofs.Sizes.{size-is}
+use Rattle.weights.proofs.LimbSizes.{size-is}
+use Rattle.weights.proofs.OneLimbBlock.{growing-begun, growing-turn}
 use Rattle.weights_quadratic.specs.Packed.{packed}
 use Rattle.weights_quadratic.proofs.table.grow.Statement.{statement}
 use Rattle.weights_quadratic.proofs.table.grow.Tie as tie

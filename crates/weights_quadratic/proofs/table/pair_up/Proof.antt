@@ -8,12 +8,12 @@ use Rattle.field.specs.Scalars.{elementAt}
 use Rattle.quadratic.specs.Fp2.{Reduced, fp2}
 use Rattle.quadratic.specs.Parts.{parts}
 use Rattle.quadratic.specs.Quadratic.{quadratic}
-use Rattle.quadratic.proofs.Below.{parts-below, unit-below, sub-below}
+use Rattle.quadratic.proofs.PartsBelow.{parts-below, unit-below, sub-below}
 use Rattle.quadratic.proofs.TwoByTwo.{two-count}
 use Rattle.weights.specs.Side.{Paired}
-use Rattle.weights.proofs.Pairs.{pairing-begun, pairing-turn}
+use Rattle.weights.proofs.FactorsWritten.{pairing-begun, pairing-turn}
 use Rattle.weights_quadratic.specs.Packed.{packed}
-use Rattle.weights_quadratic.proofs.Packed.{packed-lawful, proper-word, element-there}
+use Rattle.weights_quadratic.proofs.PackedWords.{packed-lawful, proper-word, element-there}
 use Rattle.weights_quadratic.proofs.table.pair_up.Statement.{statement}
 use Rattle.weights_quadratic.proofs.table.pair_up.Tie as tie
 

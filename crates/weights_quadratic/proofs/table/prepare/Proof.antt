@@ -10,9 +10,9 @@ use lib.ListN.{length}
 use Rattle.quadratic.specs.Quadratic.{quadratic}
 use Rattle.quadratic.proofs.TwoByTwo.{two-count}
 use Rattle.weights.specs.Side.{FilledUp}
-use Rattle.weights.proofs.Tables.{tabled-short, blocks-fit, tabled-long}
+use Rattle.weights.proofs.PreparedTable.{tabled-short, blocks-fit, tabled-long}
 use Rattle.weights_quadratic.specs.Packed.{packed}
-use Rattle.weights_quadratic.proofs.Packed.{valid-at, packed-lawful}
+use Rattle.weights_quadratic.proofs.PackedWords.{valid-at, packed-lawful}
 use Rattle.weights_quadratic.proofs.table.prepare.Statement.{statement}
 use Rattle.weights_quadratic.proofs.table.prepare.Tie as tie
 

@@ -6,11 +6,11 @@ use denote.Ref.{now}
 use lib.ListN.{length}
 use Rattle.quadratic.specs.Fp2.{fp2}
 use Rattle.quadratic.specs.Parts.{parts}
-use Rattle.quadratic.proofs.Below.{parts-below, sub-below, mul-below}
+use Rattle.quadratic.proofs.PartsBelow.{parts-below, sub-below, mul-below}
 use Rattle.weights.specs.Side.{Widened}
-use Rattle.weights.proofs.Widening.{widening-begun, widening-turn}
+use Rattle.weights.proofs.OneBitMore.{widening-begun, widening-turn}
 use Rattle.weights_quadratic.specs.Packed.{packed}
-use Rattle.weights_quadratic.proofs.Packed.{packed-lawful, valid-below, proper-word}
+use Rattle.weights_quadratic.proofs.PackedWords.{packed-lawful, valid-below, proper-word}
 use Rattle.weights_quadratic.proofs.table.widen.Statement.{statement}
 use Rattle.weights_quadratic.proofs.table.widen.Tie as tie
 

@@ -1,7 +1,7 @@
 -- `quadratic::unreduced::Unreduced::multiplied` meets its contract: the product, folded once more, is small.
 use mathlib.Core.Path.{_∙_}
 use borrow.Author.Needs.{needs}
-use Rattle.quadratic.proofs.Sizes.{twice-folded}
+use Rattle.quadratic.proofs.UnreducedSizes.{twice-folded}
 use Rattle.quadratic.proofs.unreduced.Unreduced.multiplied.Statement.{statement}
 use Rattle.quadratic.proofs.unreduced.Unreduced.multiplied.Tie as tie
 

@@ -1,7 +1,7 @@
 -- `quadratic::unreduced::Unreduced::weighed` meets its contract: the product, folded, is below 2^33 + 2^31.
 use mathlib.Core.Path.{_∙_}
 use borrow.Author.Needs.{needs}
-use Rattle.quadratic.proofs.Sizes.{once-folded}
+use Rattle.quadratic.proofs.UnreducedSizes.{once-folded}
 use Rattle.quadratic.proofs.unreduced.Unreduced.weighed.Statement.{statement}
 use Rattle.quadratic.proofs.unreduced.Unreduced.weighed.Tie as tie
 

@@ -1,0 +1,95 @@
+-- Keys of at most one row bit and one column bit, compared: where they are the same, the sheets, and a call for each refusal.
+use Prim.Native.Nat.{ℕ, _-_}
+use mathlib.Core.List.{List, [], _∷_, map}
+use mathlib.Core.Path.{_≡_, refl}
+use lib.ListN.{replicate}
+use Rattle.refusal.specs.declared.Which.{Which}
+use Rattle.field.specs.Fp.{p}
+use Rattle.field.specs.Scalars.{prime}
+use Rattle.records.proofs.Examples.{key}
+use Rattle.arrays.specs.Arrays.{Cell, cells}
+use Rattle.key.specs.Encoding.{keyBytes}
+use Rattle.comparison.specs.Compare.{Answer, same, different, Comparison, compared}
+use Rattle.comparison.proofs.CompareCases.{refusedCall}
+use Rattle.comparison.proofs.Computing.{comparing}
+
+-- the key of one sparse array of n row bits and n' column bits
+abbrev sparse : ℕ → ℕ → List Cell → List ℕ
+sparse n n' list = keyBytes n n' (record { row-bits = n; column-bits = n'; entries = cells list } ∷ [])
+
+abbrev cell : ℕ → ℕ → ℕ → ℕ → ℕ → Cell
+cell row column a b c = record { row = row; column = column; values = record { a = a; b = b; c = c } }
+
+abbrev answers : List Comparison → List Answer
+answers = map (λ c. c .answer)
+
+-- one cell at the last place against none: the same exactly where a coordinate is 0
+abbrev pub corner : List ℕ
+corner = sparse 1 1 (cell 1 1 0 5 0 ∷ [])
+
+abbrev pub none : List ℕ
+none = sparse 1 1 []
+
+abbrev cornerAt : ℕ → ℕ → Comparison
+cornerAt row column = compared prime corner none (row ∷ []) (column ∷ []) (replicate 3 9)
+
+corner-against-none :
+    answers (cornerAt 0 0 ∷ cornerAt 0 7 ∷ cornerAt 7 0 ∷ cornerAt 1 1 ∷ cornerAt 7 (p - 1) ∷ [])
+    ≡ same ∷ same ∷ same ∷ different ∷ different ∷ []
+unfolding comparing
+corner-against-none = refl
+
+-- no coordinates: the one place decides, in A, in B and in C
+abbrev placesOf : ℕ → ℕ → ℕ → Comparison
+placesOf a b c =
+    compared prime (sparse 0 0 (cell 0 0 a b c ∷ [])) (sparse 0 0 (cell 0 0 (p - 1) 2 3 ∷ cell 0 0 2 0 0 ∷ [])) [] [] (replicate 3 9)
+
+no-coordinates :
+    answers (placesOf 1 2 3 ∷ placesOf 0 2 3 ∷ placesOf 1 3 3 ∷ placesOf 1 2 4 ∷ placesOf 3 2 1 ∷ [])
+    ≡ same ∷ different ∷ different ∷ different ∷ different ∷ []
+unfolding comparing
+no-coordinates = refl
+
+-- the key of 01's keysheet input, and one of a single array: the second key's numbers, beyond them the first key's, and then what
+-- was there
+abbrev single : List ℕ
+single = sparse 1 1 (cell 1 1 1 2 3 ∷ [])
+
+written :
+    map (λ (c : Comparison). c .sheet)
+    (compared prime key single (3 ∷ []) (4 ∷ []) (replicate 7 9) ∷ compared prime single key (3 ∷ []) (4 ∷ []) (replicate 7 9) ∷ [])
+    ≡ (12 ∷ 24 ∷ 36 ∷ 2147483567 ∷ 2147483535 ∷ 0 ∷ 9 ∷ [])
+    ∷ (20 ∷ 28 ∷ 0 ∷ 2147483567 ∷ 2147483535 ∷ 0 ∷ 9 ∷ [])
+    ∷ []
+unfolding comparing
+written = refl
+
+-- ---- refusals, in their order: each call's later faults do not count
+
+abbrev refusals : List Comparison
+refusals =
+    -- the empty key first, second and both
+    compared prime [] (1 ∷ []) [] [] [] ∷
+    compared prime key [] [] [] [] ∷
+    compared prime [] [] [] [] [] ∷
+    -- shapes that differ in rows and in columns
+    compared prime key (sparse 0 1 []) [] [] [] ∷
+    compared prime (sparse 1 0 []) key [] [] [] ∷
+    -- no row coordinate, no column coordinate, and coordinates p or more, the row first
+    compared prime key single [] [] [] ∷
+    compared prime key single (p ∷ []) [] [] ∷
+    compared prime key single (p ∷ []) (p ∷ []) [] ∷
+    compared prime key single (0 ∷ []) (p ∷ []) [] ∷
+    -- a sheet that fits only one of the keys
+    compared prime key single (3 ∷ []) (4 ∷ []) (replicate 5 9) ∷
+    compared prime single key (3 ∷ []) (4 ∷ []) (replicate 5 9) ∷ []
+
+refused-all :
+    refusals ≡
+    refusedCall Which.First 2 0 [] ∷ refusedCall Which.Second 2 0 [] ∷ refusedCall Which.First 2 0 [] ∷
+    refusedCall Which.Neither 35 0 [] ∷ refusedCall Which.Neither 35 0 [] ∷
+    refusedCall Which.Neither 21 0 [] ∷ refusedCall Which.Neither 22 0 [] ∷
+    refusedCall Which.Neither 23 0 [] ∷ refusedCall Which.Neither 23 1 [] ∷
+    refusedCall Which.Neither 31 6 (replicate 5 9) ∷ refusedCall Which.Neither 31 6 (replicate 5 9) ∷ []
+unfolding comparing
+refused-all = refl

@@ -1,0 +1,55 @@
+-- What compare answers, and what it leaves on the sheet (01, 'Comparing two keys').
+use Prim.Native.Nat.{ℕ}
+use mathlib.Core.Bool.{Bool, true, false, cond, _&&_}
+use mathlib.Core.List.{List, [], _∷_}
+use lib.Dec.{eqb}
+use lib.ListN.{length}
+use Rattle.refusal.specs.Outcome.{Outcome, given, refused}
+use Rattle.refusal.specs.declared.Which.{Which}
+use Rattle.field.specs.Scalars.{Scalars}
+use Rattle.key.specs.Check.{checkedKey}
+use Rattle.key.specs.declared.Counts.{Counts}
+use Rattle.judge.specs.Judged.{pairJudged}
+use Rattle.evaluation.specs.Evaluate.{ValuesOf, lastValues, evaluated}
+use Rattle.evaluation.specs.Sheet.{wordsOf}
+
+-- "same", "different", or the key that a refusal names, with the refusal's number and place
+pub data Answer : Type 0 where
+  same : Answer
+  different : Answer
+  refusedFor : Which → ℕ → ℕ → Answer
+
+-- what a call answers, and its sheet afterwards
+pub record Comparison : Type 0 where
+  pub answer : Answer
+  pub sheet : List ℕ
+
+-- A judgement. Where it refuses, the call answers so and names this key, or neither, and the sheet is as it was; else `next`
+-- goes on.
+unfoldable pub naming : Which → Outcome Counts → List ℕ → (Counts → Comparison) → Comparison
+naming which (refused number place) sheet next = record { answer = refusedFor which number place; sheet = sheet }
+naming which (given counts) sheet next = next counts
+
+-- are the numbers of two lists equal, one by one?
+unfoldable pub sameNumbers : List ℕ → List ℕ → Bool
+sameNumbers [] [] = true
+sameNumbers [] (y ∷ ys) = false
+sameNumbers (x ∷ xs) [] = false
+sameNumbers (x ∷ xs) (y ∷ ys) = eqb x y && sameNumbers xs ys
+
+-- "same" if all the numbers of A, B and C are equal, else "different"
+unfoldable pub likeness : (𝓢 : Scalars) → ValuesOf 𝓢 → ValuesOf 𝓢 → Answer
+likeness 𝓢 one other = cond (sameNumbers (wordsOf 𝓢 one) (wordsOf 𝓢 other)) same different
+
+-- The first key's refusals come first, then the second's. The numbers compared are those that evaluate answers for the first key
+-- and for the second, which demand 2 fixes: the extensions of their last arrays' dense matrices. The sheet ends as if the first
+-- key and then the second had been evaluated on it.
+abbrev pub compared : Scalars → List ℕ → List ℕ → List ℕ → List ℕ → List ℕ → Comparison
+compared 𝓢 first second rows columns sheet =
+    naming Which.First (checkedKey first) sheet (λ one.
+    naming Which.Second (checkedKey second) sheet (λ other.
+    naming Which.Neither (pairJudged (𝓢 .width) rows columns (length sheet) one other) sheet (λ counts.
+    record {
+      answer = likeness 𝓢 (lastValues 𝓢 first rows columns) (lastValues 𝓢 second rows columns);
+      sheet = evaluated 𝓢 second rows columns (evaluated 𝓢 first rows columns sheet .sheet) .sheet;
+    })))

@@ -1,0 +1,14 @@
+-- What evaluate and cell answer.
+use Rattle.refusal.specs.Outcome.{Outcome, given, refusalOf}
+use Rattle.arrays.specs.Arrays.{Values}
+use Rattle.evaluate.specs.declared.Evaluated.{Evaluated}
+use Rattle.evaluate.specs.declared.Values.{Values as Answered}
+
+-- the numbers that are answered
+abbrev pub valuesIn : Answered → Values
+valuesIn values = record { a = values .a .0; b = values .b .0; c = values .c .0 }
+
+-- what each case of the answer says
+abbrev pub evaluatedOutcome : Evaluated → Outcome Values
+evaluatedOutcome (Evaluated.Values values) = given (valuesIn values)
+evaluatedOutcome (Evaluated.Refused f) = refusalOf f

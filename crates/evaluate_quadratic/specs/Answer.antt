@@ -1,0 +1,16 @@
+-- What evaluate answers over the field of p² (02, E2): the definitions of crate evaluate over `quadratic`.
+use Rattle.refusal.specs.Outcome.{Outcome, given, refusalOf}
+use Rattle.quadratic.specs.Parts.{parts}
+use Rattle.quadratic.specs.Quadratic.{quadratic}
+use Rattle.evaluation.specs.Evaluate.{ValuesOf}
+use Rattle.evaluate_quadratic.specs.declared.Evaluated.{Evaluated}
+use Rattle.evaluate_quadratic.specs.declared.Values.{Values as Answered}
+
+-- the values that are answered
+abbrev pub valuesIn : Answered → ValuesOf quadratic
+valuesIn values = record { a = parts (values .a); b = parts (values .b); c = parts (values .c) }
+
+-- what each case of the answer says
+abbrev pub evaluatedOutcome : Evaluated → Outcome (ValuesOf quadratic)
+evaluatedOutcome (Evaluated.Values values) = given (valuesIn values)
+evaluatedOutcome (Evaluated.Refused f) = refusalOf f

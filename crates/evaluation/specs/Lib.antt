@@ -1,0 +1,5 @@
+pub mod Sheet
+pub mod Evaluate
+pub mod Embedded
+pub mod Cell
+pub mod Inner

@@ -1,0 +1,10 @@
+-- The first of some numbers that is p or more.
+pub mod FirstOver
+-- What a point, a place and a sheet are held to, case by case.
+pub mod JudgementCases
+-- What is known of a call that nothing refuses: of its point, its place and its sheet.
+pub mod NothingRefused
+-- Judgements in order: a first one, another behind it, and then that of the sheet.
+pub mod JudgementsInOrder
+-- The shapes of two keys, case by case; and what is known of two that are of one shape: the counts to which both are held.
+pub mod KeysOfOneShape

@@ -1,0 +1,26 @@
+-- Powers of two as the code works them out, and one less than a number against another.
+use Prim.Native.Nat.{ℕ, _+_, _-_, _*_, _%_, _^_, _≤_, _<_}
+use mathlib.Core.Bool.{false}
+use mathlib.Core.Path.{_≡_, sym, _∙_}
+use native.Mathlib.Decide.{decLe}
+use native.Mathlib.Nat.{one-mul, lt-of-lt-of-le}
+use native.Mathlib.Omega.{arith}
+use borrow.Author.Tests.{le-leb, lt-leb}
+use lib.Dec.{leb, lit<}
+use lib.Pow.{shl-exact, pow-mono}
+
+-- `1 << bits` in 32 bits
+pub one-shl : (bits : ℕ) → bits < 32 → (1 * 2 ^ bits) % 2 ^ 32 ≡ 2 ^ bits
+one-shl bits h = shl-exact {a = 1} 1 bits 32 (lit< tt) (omega arith) ∙ one-mul (2 ^ bits)
+
+-- a number of 32 bits is below every higher power
+pub below-power : (x bits : ℕ) → x < 2 ^ 32 → 32 ≤ bits → false ≡ leb (2 ^ bits) x
+below-power x bits h g = sym (lt-leb (2 ^ bits) x (lt-of-lt-of-le h (pow-mono g)))
+
+-- one less than a number, against another
+pub less-one : (a b : ℕ) → leb (a - 1) b ≡ leb a (b + 1)
+less-one a b =
+    elim (decLe a (b + 1)) [
+      | yes l ↦ le-leb (a - 1) b (omega arith) ∙ sym (le-leb a (b + 1) l)
+      | no l ↦ lt-leb (a - 1) b (omega arith) ∙ sym (lt-leb a (b + 1) (omega arith))
+    ]
