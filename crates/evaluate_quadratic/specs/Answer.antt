@@ -1,4 +1,4 @@
--- What evaluate answers over the field of p² (02, E2): the definitions of crate evaluate over `quadratic`.
+-- What evaluate answers over the field of p² (02, E2).
 use Rattle.refusal.specs.Outcome.{Outcome, given, refusalOf}
 use Rattle.quadratic.specs.Parts.{parts}
 use Rattle.quadratic.specs.Quadratic.{quadratic}

@@ -10,5 +10,9 @@ pub mod FpField
 pub mod PrimeLawful
 -- The elements that numbers make, in any field in which keys are evaluated.
 pub mod Elements
+-- Two numbers stored in a list, one behind the other.
+pub mod TwoStores
+-- 1 shifted to the left in a number of so many bits is a power of two.
+pub mod OneShifted
 -- What the public calls answer, by cases, and that what an answer says determines it.
 pub mod Answers

@@ -1,6 +1,6 @@
 // The numbers of a case.
 use field::Fp;
-ghost use Prim.Native.Nat.{_<_, _≤_};
+ghost use Prim.Native.Nat.{_≤_};
 ghost use Rattle.algebra.specs.Points.{Below};
 ghost use Rattle.field.specs.Fp.{p};
 
@@ -48,11 +48,5 @@ pub(crate) fn fill(numbers: &mut [u32])
 pub(crate) fn next() -> u32 {
     let mut bytes = [0u8; 4];
     io::read_full(0, &mut bytes);
-    wide(bytes[0]) + 256 * wide(bytes[1]) + 65536 * wide(bytes[2]) + 16777216 * wide(bytes[3])
-}
-
-fn wide(byte: u8) -> u32
-    ensures { λ r. ⌜ r < 256 ⌝ }
-{
-    byte as u32
+    records::read::four_bytes(&bytes, 0)
 }

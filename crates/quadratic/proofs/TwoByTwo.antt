@@ -1,10 +1,9 @@
 -- Numbers two by two: element i is made of the numbers 2i and 2i + 1.
 use Prim.Native.Nat.{ℕ, zero, suc, _+_, _*_, _/_, _≤_, _<_}
 use mathlib.Core.List.{List, [], _∷_}
-use mathlib.Core.Path.{_≡_, refl, sym, ap, ap₂, subst, _∙_}
+use mathlib.Core.Path.{_≡_, refl, sym, ap₂, subst, _∙_}
 use native.Mathlib.Omega.{arith}
-use lib.ListN.{length, getD, set}
-use lib.Seq.{sets}
+use lib.ListN.{length, getD}
 use Rattle.field.specs.Fp.{p}
 use Rattle.field.specs.Scalars.{elementAt}
 use Rattle.quadratic.specs.Fp2.{Reduced}
@@ -34,7 +33,3 @@ unfolding twoByTwo
 two-count [] = omega arith
 two-count (u ∷ []) = omega arith
 two-count (u ∷ v ∷ list) = omega (arith, two-count list)
-
--- stores at two places, one behind the other
-pub two-stores : (list : List ℕ) (at u v : ℕ) → set (set list at u) (at + 1) v ≡ sets list at (u ∷ v ∷ [])
-two-stores list at u v = ap (λ (i : ℕ). set (set list at u) i v) (let one : at + 1 ≡ suc at = omega arith in one)

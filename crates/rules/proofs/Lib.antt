@@ -1,4 +1,4 @@
--- Powers of two as the code works them out, and one less than a number against another.
+-- A number of 32 bits against a higher power of two, and one less than a number against another.
 pub mod PowersOfTwo
 -- What a verdict says of the rules that a record was held to.
 pub mod Verdicts

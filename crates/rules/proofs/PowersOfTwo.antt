@@ -1,17 +1,13 @@
--- Powers of two as the code works them out, and one less than a number against another.
-use Prim.Native.Nat.{ℕ, _+_, _-_, _*_, _%_, _^_, _≤_, _<_}
+-- A number of 32 bits against a higher power of two, and one less than a number against another.
+use Prim.Native.Nat.{ℕ, _+_, _-_, _^_, _≤_, _<_}
 use mathlib.Core.Bool.{false}
 use mathlib.Core.Path.{_≡_, sym, _∙_}
 use native.Mathlib.Decide.{decLe}
-use native.Mathlib.Nat.{one-mul, lt-of-lt-of-le}
+use native.Mathlib.Nat.{lt-of-lt-of-le}
 use native.Mathlib.Omega.{arith}
 use borrow.Author.Tests.{le-leb, lt-leb}
-use lib.Dec.{leb, lit<}
-use lib.Pow.{shl-exact, pow-mono}
-
--- `1 << bits` in 32 bits
-pub one-shl : (bits : ℕ) → bits < 32 → (1 * 2 ^ bits) % 2 ^ 32 ≡ 2 ^ bits
-one-shl bits h = shl-exact {a = 1} 1 bits 32 (lit< tt) (omega arith) ∙ one-mul (2 ^ bits)
+use lib.Dec.{leb}
+use lib.Pow.{pow-mono}
 
 -- a number of 32 bits is below every higher power
 pub below-power : (x bits : ℕ) → x < 2 ^ 32 → 32 ≤ bits → false ≡ leb (2 ^ bits) x

@@ -1,5 +1,9 @@
 // A case, read from standard input.
-ghost use Prim.Native.Nat.{_<_};
+use records::read;
+ghost use mathlib.Core.Path.{_≡_};
+ghost use Prim.Native.Nat.{_+_, _*_, _≤_, _<_};
+ghost use lib.ListN.{take, drop};
+ghost use Rattle.records.specs.Layout.{numberIn};
 
 // The numbers in front of a case's text and data, each of which serves the calls that need it.
 pub struct Header {
@@ -36,19 +40,19 @@ fn from_bytes(bytes: &[u8; 48]) -> Header
 {
     Header {
         operation: bytes[0],
-        text: (four_bytes(bytes, 1) % 65536) as usize,
+        text: (read::four_bytes(bytes, 1) % 65536) as usize,
         x: eight_bytes(bytes, 3),
         y: eight_bytes(bytes, 11),
         kind: bytes[19],
         fields: [
-            four_bytes(bytes, 20),
-            four_bytes(bytes, 24),
-            four_bytes(bytes, 28),
-            four_bytes(bytes, 32),
-            four_bytes(bytes, 36),
+            read::four_bytes(bytes, 20),
+            read::four_bytes(bytes, 24),
+            read::four_bytes(bytes, 28),
+            read::four_bytes(bytes, 32),
+            read::four_bytes(bytes, 36),
         ],
-        zeros: (four_bytes(bytes, 40) % 131072) as usize,
-        data: (four_bytes(bytes, 44) % 131072) as usize,
+        zeros: (read::four_bytes(bytes, 40) % 131072) as usize,
+        data: (read::four_bytes(bytes, 44) % 131072) as usize,
     }
 }
 
@@ -56,7 +60,7 @@ fn from_bytes(bytes: &[u8; 48]) -> Header
 pub fn next() -> u32 {
     let mut bytes = [0u8; 4];
     io::read_full(0, &mut bytes);
-    four_bytes(&bytes, 0)
+    read::four_bytes(&bytes, 0)
 }
 
 // The next numbers of standard input.
@@ -85,35 +89,14 @@ pub fn part(data: &[u8], from: usize, to: usize) -> &[u8] {
     &data[0..0]
 }
 
-// The number in the four bytes at an offset, or 0 where there are no four.
-fn four_bytes(bytes: &[u8], at: usize) -> u32 {
-    let length = bytes.len();
-    if length < 4 {
-        return 0;
-    }
-    if length - 4 < at {
-        return 0;
-    }
-    wide(bytes[at])
-        + 256 * wide(bytes[at + 1])
-        + 65536 * wide(bytes[at + 2])
-        + 16777216 * wide(bytes[at + 3])
-}
-
-// The number in the eight bytes at an offset, or 0 where there are no eight.
-fn eight_bytes(bytes: &[u8], at: usize) -> u64 {
-    let length = bytes.len();
-    if length < 8 {
-        return 0;
-    }
-    if length - 8 < at {
-        return 0;
-    }
-    (four_bytes(bytes, at) as u64) + 4294967296 * (four_bytes(bytes, at + 4) as u64)
-}
-
-fn wide(byte: u8) -> u32
-    ensures { λ r. ⌜ r < 256 ⌝ }
+// The number in the eight bytes of a header from a place on. Inner: they are there.
+fn eight_bytes(bytes: &[u8; 48], at: usize) -> u64
+    requires { ⌜ at + 8 ≤ 48 ⌝ }
+    ensures { λ r. ⌜
+        r ≡
+        numberIn (take 4 (drop at (now (bytes .entry)))) + 4294967296 * numberIn (take 4 (drop (at + 4) (now (bytes .entry)))) ⌝ }
 {
-    byte as u32
+    let low = read::four_bytes(bytes, at);
+    let high = read::four_bytes(bytes, at + 4);
+    (low as u64) + 4294967296 * (high as u64)
 }

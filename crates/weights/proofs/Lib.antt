@@ -8,7 +8,7 @@ pub mod WeightProduct
 pub mod SmallWeights
 -- The factors of bits in a side's table: one is the weight over its bit alone, and four are multiplied one by one.
 pub mod TableFactors
--- How many weights there are over so many bits of a limb, as a shift works it out, and the places that they take in the limb's block.
+-- The places that the weights over so many bits of a limb take in the limb's block.
 pub mod LimbSizes
 -- The weights of limbs in a side's table: where the weight over the last bits of a limb stands.
 pub mod LimbWeights

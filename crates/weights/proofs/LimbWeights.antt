@@ -7,21 +7,22 @@ use native.Mathlib.Nat.{div-add-mod', mod-lt}
 use native.Mathlib.Omega.{arith}
 use lib.ListN.{length}
 use lib.Pow.{pow-pos}
+use Rattle.field.proofs.OneShifted.{one-shifted}
 use Rattle.multilinear.specs.Eq.{bitwise}
 use Rattle.multilinear.proofs.Bitwise.{bitwise-low}
 use Rattle.weights.specs.Words.{Words, LawfulWords}
 use Rattle.weights.specs.Side.{elementIn, pairs, Limbs, Prepared}
-use Rattle.weights.proofs.LimbSizes.{size-is, place-inside}
+use Rattle.weights.proofs.LimbSizes.{place-inside}
 
 -- how many weights there are over so many bits, as a shift works it out: some, and few enough that a place behind them lies in the block
 abbrev pub size : ℕ → ℕ
 size bits = (1 * 2 ^ bits) % 4294967296
 
 pub size-some : (bits : ℕ) → bits ≤ 5 → 0 < size bits
-size-some bits l = rw (size-is 32 bits (omega arith)) (pow-pos bits)
+size-some bits l = rw (one-shifted 32 bits (omega arith)) (pow-pos bits)
 
 pub offset-small : (a bits : ℕ) → bits ≤ 5 → size bits + a % size bits < 64
-offset-small a bits l = rw (size-is 32 bits (omega arith)) (place-inside bits (a % 2 ^ bits) l (mod-lt a (pow-pos bits)))
+offset-small a bits l = rw (one-shifted 32 bits (omega arith)) (place-inside bits (a % 2 ^ bits) l (mod-lt a (pow-pos bits)))
 
 -- a table for n bits is one for fewer
 limbs-fewer : (𝓦 : Words) (n k : ℕ) (table : List ℕ) → k ≤ n → Limbs 𝓦 n table → Limbs 𝓦 k table
@@ -53,7 +54,7 @@ module _ (𝓦 : Words) (𝓛 : LawfulWords 𝓦) (table : List ℕ) (a limb bit
       elementIn 𝓦 table (64 * limb + 64 + (size bits + a % size bits))
       ≡ bitwise (𝓦 .scalars .arithmetic) (pairs 𝓦 table) bits (5 * limb + (5 - bits)) a
   limb-holds =
-      rw (size-is 32 bits (omega arith))
+      rw (one-shifted 32 bits (omega arith))
       (side .limbs long .holds limb bits (a % 2 ^ bits) blocks l (mod-lt a (pow-pos bits))
       ∙ sym (bitwise-low (𝓦 .scalars .arithmetic) (𝓛 .lawful .field .ring) (pairs 𝓦 table) bits (5 * limb + (5 - bits)) (a / 2 ^ bits) (a % 2 ^ bits))
       ∙ ap (bitwise (𝓦 .scalars .arithmetic) (pairs 𝓦 table) bits (5 * limb + (5 - bits))) (div-add-mod' a (2 ^ bits)))

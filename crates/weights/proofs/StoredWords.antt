@@ -1,18 +1,13 @@
 -- A table with one word, or two one behind the other, stored in it.
 use Prim.Native.Nat.{ℕ, suc, _+_, _<_}
 use mathlib.Core.List.{List, [], _∷_}
-use mathlib.Core.Path.{_≡_, ap, _∙_}
+use mathlib.Core.Path.{_≡_, _∙_}
 use native.Mathlib.Decide.{ℕ-discrete}
 use native.Mathlib.Omega.{arith}
 use lib.ListN.{length, getD, set, length-set}
 use lib.Seq.{sets, getD-set-same, getD-set-other}
 use Rattle.weights.specs.Words.{Words}
 use Rattle.weights.specs.Side.{AllProper}
-
-pub two-stores : (table : List ℕ) (at a b : ℕ) → set (set table at a) (at + 1) b ≡ sets table at (a ∷ b ∷ [])
-two-stores table at a b =
-    let one : at + 1 ≡ suc at = omega arith in
-    ap (λ (i : ℕ). set (set table at a) i b) one
 
 pub set-proper : (𝓦 : Words) (table : List ℕ) (at a : ℕ) → at < length table → 𝓦 .Proper a → AllProper 𝓦 table →
     AllProper 𝓦 (set table at a)

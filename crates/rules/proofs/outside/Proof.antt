@@ -1,7 +1,8 @@
 -- `rules::outside` meets its contract: a number of 32 bits is below every power from 2^32 on.
 use native.Mathlib.Omega.{arith}
 use borrow.Author.Needs.{needs}
-use Rattle.rules.proofs.PowersOfTwo.{one-shl, below-power}
+use Rattle.field.proofs.OneShifted.{one-shifted}
+use Rattle.rules.proofs.PowersOfTwo.{below-power}
 use Rattle.rules.proofs.outside.Statement.{statement}
 use Rattle.rules.proofs.outside.Tie as tie
 
@@ -9,7 +10,7 @@ shl-power : tie.Need-shl-power
 shl-power c = search needs
 
 returns : tie.Need-returns
-returns c = rw (one-shl (c .before .args .bits) (omega arith))
+returns c = rw (one-shifted 32 (c .before .args .bits) (omega arith))
 
 returns-2 : tie.Need-returns-2
 returns-2 c = below-power _ _ (c .before .fits .address .fits) (c .if1 .left)

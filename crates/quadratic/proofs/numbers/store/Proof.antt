@@ -4,7 +4,7 @@ use native.Mathlib.Omega.{arith}
 use borrow.Author.Needs.{needs}
 use denote.Ref.{now}
 use lib.ListN.{length-set}
-use Rattle.quadratic.proofs.TwoByTwo.{two-stores}
+use Rattle.field.proofs.TwoStores.{two-stores}
 use Rattle.quadratic.proofs.numbers.store.Statement.{statement}
 use Rattle.quadratic.proofs.numbers.store.Tie as tie
 

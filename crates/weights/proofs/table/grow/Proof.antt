@@ -5,9 +5,9 @@ use native.Mathlib.Omega.{arith}
 use denote.Ref.{now}
 use lib.ListN.{length}
 use lib.Pow.{pow-mono}
+use Rattle.field.proofs.OneShifted.{one-shifted}
 use Rattle.weights.specs.Words.{singles}
 use Rattle.weights.specs.Side.{BlockGrown}
-use Rattle.weights.proofs.LimbSizes.{size-is}
 use Rattle.weights.proofs.OneLimbBlock.{growing-begun, growing-turn}
 use Rattle.weights.proofs.table.grow.Statement.{statement}
 use Rattle.weights.proofs.table.grow.Tie as tie
@@ -67,7 +67,7 @@ widen-requires c κs =
     let t = test .before in
     let level = t .loop .level in
     let l : level ≤ 4 = omega (arith, test .loop-test .taken) in (
-      omega (arith, size-is 64 level (omega arith), pow-mono {i = level} {j = 4} l, room t),
+      omega (arith, one-shifted 64 level (omega arith), pow-mono {i = level} {j = 4} l, room t),
       rw (c .before .new .ensures) (t .loop .inv .0 .proper _),
       t .loop .inv .0 .proper,
     )
@@ -85,7 +85,7 @@ loop-again c =
     let test = read .before .before in
     let t = test .before in
     let l = test .loop-test .taken in (
-      growing-turn singles _ _ _ _ (t .loop .level) _ _ _ l refl (size-is 64 _ (omega arith)) (start t .pre .0 .3) (t .loop .inv .0)
+      growing-turn singles _ _ _ _ (t .loop .level) _ _ _ l refl (one-shifted 64 _ (omega arith)) (start t .pre .0 .3) (t .loop .inv .0)
           (read .new .ensures) (made .widen .ensures),
       omega (arith, l),
     )

@@ -1,7 +1,7 @@
 -- `weights::table::put_both` meets its contract: two stores.
 use denote.Ref.{now}
 use borrow.Author.Needs.{needs}
-use Rattle.weights.proofs.StoredWords.{two-stores}
+use Rattle.field.proofs.TwoStores.{two-stores}
 use Rattle.weights.proofs.table.put_both.Statement.{statement}
 use Rattle.weights.proofs.table.put_both.Tie as tie
 

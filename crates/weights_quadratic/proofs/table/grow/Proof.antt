@@ -5,10 +5,10 @@ use native.Mathlib.Omega.{arith}
 use denote.Ref.{now}
 use lib.ListN.{length}
 use lib.Pow.{pow-mono}
+use Rattle.field.proofs.OneShifted.{one-shifted}
 use Rattle.quadratic.specs.Parts.{parts}
 use Rattle.quadratic.proofs.PartsBelow.{parts-below}
 use Rattle.weights.specs.Side.{BlockGrown}
-use Rattle.weights.proofs.LimbSizes.{size-is}
 use Rattle.weights.proofs.OneLimbBlock.{growing-begun, growing-turn}
 use Rattle.weights_quadratic.specs.Packed.{packed}
 use Rattle.weights_quadratic.proofs.table.grow.Statement.{statement}
@@ -69,7 +69,7 @@ widen-requires c κs =
     let t = test .before in
     let level = t .loop .level in
     let l : level ≤ 4 = omega (arith, test .loop-test .taken) in (
-      omega (arith, size-is 64 level (omega arith), pow-mono {i = level} {j = 4} l, room t),
+      omega (arith, one-shifted 64 level (omega arith), pow-mono {i = level} {j = 4} l, room t),
       parts-below _ _ (c .before .unpacked .ensures) (t .loop .inv .0 .proper _),
       t .loop .inv .0 .proper,
     )
@@ -87,7 +87,7 @@ loop-again c =
     let test = read .before .before in
     let t = test .before in
     let l = test .loop-test .taken in (
-      growing-turn packed _ _ _ _ (t .loop .level) _ _ (parts (read .unpacked .result)) l refl (size-is 64 _ (omega arith))
+      growing-turn packed _ _ _ _ (t .loop .level) _ _ (parts (read .unpacked .result)) l refl (one-shifted 64 _ (omega arith))
           (start t .pre .0 .3) (t .loop .inv .0) (read .unpacked .ensures) (made .widen .ensures),
       omega (arith, l),
     )

@@ -1,7 +1,7 @@
 -- `weights_quadratic::table::put_both` meets its contract: two stores.
 use denote.Ref.{now}
 use borrow.Author.Needs.{needs}
-use Rattle.weights.proofs.StoredWords.{two-stores}
+use Rattle.field.proofs.TwoStores.{two-stores}
 use Rattle.weights_quadratic.proofs.table.put_both.Statement.{statement}
 use Rattle.weights_quadratic.proofs.table.put_both.Tie as tie
 
