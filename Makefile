@@ -1,11 +1,11 @@
 # The commands of the README.
-.PHONY: run build test bench fmt
+.PHONY: run build test bench fmt install uninstall capitals
 
 # Proves the library and runs the test programs.
 run:
 	@rt check
 
-# Builds the archive for C and Rust, keysheet and keytool.
+# Builds the libraries for C and Rust, keysheet and morgana.
 build:
 	@tools/build
 
@@ -20,3 +20,15 @@ bench:
 fmt:
 	@rt fmt
 	@cd host && cargo fmt
+
+# Installs what people use below PREFIX (/usr/local), or removes it again. DESTDIR is put before
+# each path, and PYTHONDIR is the folder of the Python module.
+install: capitals
+	@tools/install
+
+uninstall: capitals
+	@tools/install --remove
+
+# The names of the variables are easily mistaken, and without PREFIX files go to /usr/local.
+capitals:
+	@test -z '$(prefix)$(destdir)' || { echo 'PREFIX is written in capitals, and so is DESTDIR' >&2; exit 1; }

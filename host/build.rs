@@ -38,5 +38,7 @@ fn link(archive: &Path) -> Result<(), String> {
     println!("cargo::rustc-link-search=native={folder}");
     println!("cargo::rustc-link-lib=static:+verbatim={name}");
     println!("cargo::rustc-env=MORGANA_LINKED={shown}");
+    // What the build script of a package that depends on this one gets as DEP_MORGANA_ARCHIVE.
+    println!("cargo::metadata=archive={shown}");
     Ok(())
 }

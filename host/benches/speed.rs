@@ -38,7 +38,6 @@ use independent::pass::factors::Factors;
 use independent::pass::tables::Tables;
 use keys::Sample;
 use measure::Row;
-use morgana::Compared;
 
 /// Prints the table, the times of the programs if they are named, and the highest ratios.
 fn main() {
@@ -112,7 +111,9 @@ fn hold_equal(sample: &Sample) {
     );
     let mut sheets = [sample.sheet(), sample.sheet(), sample.sheet()];
     let [of_archive, of_factors, of_tables] = &mut sheets;
-    let got = morgana::evaluate(key, rows, columns, of_archive).expect("the point fits");
+    let got = morgana::evaluate(key, rows, columns, of_archive)
+        .expect("the point fits")
+        .values;
     let wanted = Ok([got.a, got.b, got.c]);
     let answer = pass::evaluate::<Factors<Fp>>(key, rows, columns, of_factors);
     assert_eq!(answer, wanted);
@@ -121,13 +122,8 @@ fn hold_equal(sample: &Sample) {
     assert_eq!(of_archive, of_factors);
     assert_eq!(of_archive, of_tables);
     let got = morgana::compare(key, other, rows, columns, of_archive);
-    let same = key == other;
-    let wanted = if same {
-        Compared::Same
-    } else {
-        Compared::Different
-    };
-    assert_eq!(got.ok(), Some(wanted));
+    let same = got.expect("the keys fit").same;
+    assert_eq!(same, key == other);
     let answer = pass::compare::<Factors<Fp>>(key, other, rows, columns, of_factors);
     assert_eq!(answer, Ok(same));
     let answer = pass::compare::<Tables<Fp>>(key, other, rows, columns, of_tables);
@@ -147,7 +143,9 @@ fn hold_equal_over_p_squared(sample: &Sample) {
     } = sample;
     let mut sheets = [sample.sheet(), sample.sheet(), sample.sheet()];
     let [of_archive, of_factors, of_tables] = &mut sheets;
-    let got = morgana::evaluate_quadratic(key, rows, columns, of_archive).expect("the point fits");
+    let got = morgana::evaluate_quadratic(key, rows, columns, of_archive)
+        .expect("the point fits")
+        .values;
     let wanted = Ok([got.a, got.b, got.c].map(|element| [element.u, element.v]));
     let answer = pass::evaluate::<Factors<Quadratic>>(key, rows, columns, of_factors);
     assert_eq!(answer, wanted);
@@ -156,7 +154,7 @@ fn hold_equal_over_p_squared(sample: &Sample) {
     assert_eq!(of_archive, of_factors);
     assert_eq!(of_archive, of_tables);
     let got = morgana::compare_quadratic(key, other, rows, columns, of_archive);
-    let same = got.expect("the keys fit") == Compared::Same;
+    let same = got.expect("the keys fit").same;
     assert_eq!(same, key == other);
     let answer = pass::compare::<Factors<Quadratic>>(key, other, rows, columns, of_factors);
     assert_eq!(answer, Ok(same));

@@ -1,54 +1,53 @@
-/* Morgana circuit keys: checked, evaluated at a point, asked for single cells, and compared.
+/* Morgana circuit keys: checked, evaluated at a point, asked for single cells,
+ * and compared.
  *
- * Link with libmorgana.a, on Linux on x86-64. Whatever numbers and slices a call is given, it answers: what it cannot
- * work with it refuses. The library keeps nothing between calls, so that calls may run at the same time on different
- * sheets.
+ * Link with libmorgana, on Linux on x86-64. The header can be included from C
+ * (C99 and later) and from C++ (C++11 and later). Whatever numbers and slices a
+ * call is given, it answers: what it cannot work with it refuses.
  *
- * Slices. A slice is a pointer and then a length, which counts bytes for a key and 32-bit numbers otherwise. The
- * pointer of an empty slice may be null. Every other pointer must point at that many bytes or numbers, be aligned as its
- * type is, and nothing else may write to them during the call. The sheet must not overlap any other slice of the call; the other slices
- * may overlap each other.
+ * No call takes memory from the heap, does input or output, or keeps anything
+ * between calls, so that calls may run at the same time on different sheets.
+ * Keys and points are taken to be public: the time that a call takes depends on
+ * them.
  *
- * Replies. `number` is 0 where nothing is refused, and then `place` is 0. Where the call is refused, `number` and
- * `place` give the refusal, every other field but `key` is 0, and the sheet is untouched. Replies grow at their end
- * only: a later version may add fields behind the last one, and moves none. As replies are returned by value, a
- * program is compiled with the header of the archive that it is linked with.
+ * Slices. A slice is a pointer and then a length, which counts bytes for a key
+ * and 32-bit numbers otherwise. The pointer of an empty slice may be null.
+ * Every other pointer must point at that many bytes or numbers, be aligned as
+ * its type is, and nothing else may write to them during the call. The sheet
+ * must not overlap any other slice of the call; the other slices may overlap
+ * each other.
  *
- * The fields. p = 2147483647, and a number of the field is 0 to p - 1. A point is n row coordinates and n' column
- * coordinates below p, where n and n' are the row bits and the column bits of the key's head.
+ * The fields. p = 2147483647, and a number of the field is 0 to p - 1. A point
+ * is n row coordinates and n' column coordinates below p, where n and n' are
+ * the row bits and the column bits of the key's head.
  *
- * For the calls whose names end in _quadratic a coordinate is an element u + v*i of the field of p*p elements, where
- * i*i is -1: two numbers below p, u first. So is each A, B and C: an array has six numbers on the sheet, u and v of A,
- * of B and of C. At a point with every v zero, every u is what the call over p gives, and every v is zero.
+ * For the calls whose names end in _quadratic a coordinate is an element
+ * u + v*i of the field of p*p elements, where i*i is -1: two numbers below p, u
+ * first. So is each A, B and C: an array has six numbers on the sheet, u and v
+ * of A, of B and of C. At a point with every v zero, every u is what the call
+ * over p gives, and every v is zero.
  *
- * Refusals.
+ * Sheets. A call needs three places of its sheet, over p*p six, for each array
+ * of the key. Where it compares two keys, it needs them for each array of the
+ * key with more arrays. MORGANA_SHEET places always suffice, and over p*p
+ * MORGANA_SHEET_QUADRATIC places.
  *
- *   number                                                          place
- *   Key author
- *    1  key over 65,536 bytes                                       65536
- *    2  record missing or cut off                                   offset of the record's first byte
- *    3  unknown kind                                                likewise
- *    4  record not allowed at this point, or end before any array   likewise
- *    5  head bits over 30, or array bits over the head's            likewise
- *    6  a 1,025th array                                             likewise
- *    7  cell address outside its array                              likewise
- *    8  cell value p or more                                        likewise
- *    9  called id not earlier                                       likewise
- *   10  called array larger in rows or columns                      likewise
- *   11  call position too great                                     likewise
- *   12  last array not of the head's shape                          offset of the end
- *   13  bytes after the end                                         offset of the first
- *   Sender of the point
- *   21  row count not n (_quadratic: not 2n numbers)                the count received
- *   22  column count not n' (_quadratic: not 2n' numbers)           likewise
- *   23  coordinate p or more                                        its index, rows first (_quadratic: the number's)
- *   24  row or column outside the last array                        0 for the row, 1 for the column
- *   Calling program
- *   31  sheet below 3 * arrays (_quadratic: 6 * arrays)             the length needed
- *   35  shapes differ                                               0
+ * Replies. `number` is 0 where nothing is refused, and then `place` is 0. Where
+ * the call is refused, `number` and `place` give the refusal, every other field
+ * but `key` is 0, and the sheet is untouched.
  *
- * Of several refusals the first in the order that each call gives is answered. Row faults precede column faults, and
- * of several coordinates the first counts.
+ * Refusals. `number` says what is at fault: it is one of MorganaNumber, which
+ * lists the numbers by who is at fault. `place` says where, and the number says
+ * what it counts: a place in a key is an offset from the key's first byte. Of
+ * several refusals the first in the order that each call gives is answered. Row
+ * faults precede column faults, and of several coordinates the first counts.
+ *
+ * Versions. Replies grow at their end only: a later version may add fields
+ * behind the last one, and moves none. As replies are returned by value, a
+ * program runs with a library whose major and minor version are those of the
+ * header that it was compiled with: morgana_version() / 1000 is then
+ * MORGANA_VERSION / 1000. The soname and the symbols of the shared library have
+ * both. Versions that differ in the patch alone have one interface.
  */
 #ifndef MORGANA_H
 #define MORGANA_H
@@ -60,8 +59,90 @@
 extern "C" {
 #endif
 
+/* The version that this header belongs to, and all of it as one number. */
+#define MORGANA_VERSION_MAJOR 0
+#define MORGANA_VERSION_MINOR 2
+#define MORGANA_VERSION_PATCH 0
+#define MORGANA_VERSION                                                        \
+    (1000000 * MORGANA_VERSION_MAJOR + 1000 * MORGANA_VERSION_MINOR +          \
+     MORGANA_VERSION_PATCH)
+
 /* The prime p. */
 #define MORGANA_P 2147483647u
+
+/* The most bytes of a key. */
+#define MORGANA_KEY_LIMIT 65536
+
+/* The most arrays of a key. */
+#define MORGANA_MOST_ARRAYS 1024
+
+/* The most row bits of a key, and the most column bits. */
+#define MORGANA_MOST_BITS 30
+
+/* The places of a sheet that suffices for every key, and over p*p. */
+#define MORGANA_SHEET 3072
+#define MORGANA_SHEET_QUADRATIC 6144
+
+/* The bytes of stack that suffice for every call: measured, not proved. A call
+ * is a chain of a few frames of fixed size, the deepest that of
+ * morgana_compare_quadratic, without recursion, so that no key makes it deeper.
+ * What the loader needs where it binds the C library's memset during the call
+ * is counted; what signal handlers need on the same stack is not. */
+#define MORGANA_STACK 20480
+
+/* The numbers of refusals, by who is at fault: the condition under which alone
+ * each comes, and behind the semicolon its place. */
+typedef enum MorganaNumber {
+    /* nothing is refused; 0 */
+    MORGANA_NOT_REFUSED = 0,
+
+    /* Key author. */
+
+    /* key over 65,536 bytes; 65536 */
+    MORGANA_KEY_TOO_LONG = 1,
+    /* record missing or cut off; offset of the record's first byte */
+    MORGANA_RECORD_INCOMPLETE = 2,
+    /* unknown kind; likewise */
+    MORGANA_KIND_UNKNOWN = 3,
+    /* record not allowed at this point, or end before any array; likewise */
+    MORGANA_RECORD_MISPLACED = 4,
+    /* head bits over 30, or array bits over the head's; likewise */
+    MORGANA_BITS_TOO_MANY = 5,
+    /* a 1,025th array; likewise */
+    MORGANA_ARRAYS_TOO_MANY = 6,
+    /* cell address outside its array; likewise */
+    MORGANA_CELL_OUTSIDE = 7,
+    /* cell value p or more; likewise */
+    MORGANA_VALUE_TOO_GREAT = 8,
+    /* called id not earlier; likewise */
+    MORGANA_CALLED_NOT_EARLIER = 9,
+    /* called array larger in rows or columns; likewise */
+    MORGANA_CALLED_TOO_LARGE = 10,
+    /* call position too great; likewise */
+    MORGANA_POSITION_TOO_GREAT = 11,
+    /* last array not of the head's shape; offset of the end */
+    MORGANA_LAST_SHAPE_WRONG = 12,
+    /* bytes after the end; offset of the first */
+    MORGANA_BYTES_AFTER_END = 13,
+
+    /* Sender of the point. */
+
+    /* row count not n (_quadratic: not 2n numbers); the count received */
+    MORGANA_ROW_COUNT_WRONG = 21,
+    /* column count not n' (_quadratic: not 2n' numbers); likewise */
+    MORGANA_COLUMN_COUNT_WRONG = 22,
+    /* coordinate p or more; its index, rows first (_quadratic: the number's) */
+    MORGANA_COORDINATE_TOO_GREAT = 23,
+    /* row or column outside the last array; 0 for the row, 1 for the column */
+    MORGANA_ADDRESS_OUTSIDE = 24,
+
+    /* Calling program. */
+
+    /* sheet below 3 * arrays (_quadratic: 6 * arrays); the length needed */
+    MORGANA_SHEET_TOO_SHORT = 31,
+    /* shapes differ; 0 */
+    MORGANA_SHAPES_DIFFER = 35,
+} MorganaNumber;
 
 /* What morgana_check answers. */
 typedef struct MorganaCheckReply {
@@ -99,53 +180,69 @@ typedef struct MorganaQuadraticReply {
 typedef struct MorganaCompareReply {
     uint32_t number; /* the number of the refusal, or 0 */
     uint64_t place;  /* the place of the refusal, or 0 */
-    uint32_t key;    /* the key at fault: 1 the first, 2 the second, 0 neither */
+    uint32_t key;    /* the key at fault: 1 first, 2 second, 0 neither */
     uint32_t same;   /* 1 for "same", 0 for "different" */
 } MorganaCompareReply;
 
-/* Answers the counts of an accepted key, with n and n'. Refuses with 1, then record by record with 2 for no byte, 3, 2
- * for a cut body, 4, 6, 5, 7 to 12 by number, 13. */
+/* The version of the library that the program runs with, as MORGANA_VERSION
+ * gives the header's. */
+uint32_t morgana_version(void);
+
+/* Answers the counts of an accepted key, with n and n'. Refuses with 1, then
+ * record by record with 2 for no byte, 3, 2 for a cut body, 4, 6, 5, 7 to 12 by
+ * number, 13. */
 MorganaCheckReply morgana_check(const uint8_t *key, size_t key_length);
 
-/* Answers the last array's A, B and C at a point, and writes every array's triple into the sheet, array i's at 3i;
- * places from 3 * arrays on stay. Refuses as morgana_check does, then with 21, 22, 23, 31. */
+/* Answers the last array's A, B and C at a point, and writes every array's
+ * triple into the sheet, array i's at 3i; places from 3 * arrays on stay.
+ * Refuses as morgana_check does, then with 21, 22, 23, 31. */
 MorganaEvaluateReply morgana_evaluate(const uint8_t *key, size_t key_length,
                                       const uint32_t *rows, size_t rows_length,
-                                      const uint32_t *columns, size_t columns_length,
+                                      const uint32_t *columns,
+                                      size_t columns_length,
                                       uint32_t *sheet, size_t sheet_length);
 
-/* Answers the last array's dense A, B and C at a row and a column; the sheet is then as after morgana_evaluate at the
- * point whose coordinates are the bits of row and column, lowest first. Refuses as morgana_check does, then with 24,
+/* Answers the last array's dense A, B and C at a row and a column; the sheet is
+ * then as after morgana_evaluate at the point whose coordinates are the bits of
+ * row and column, lowest first. Refuses as morgana_check does, then with 24,
  * 31. */
 MorganaEvaluateReply morgana_cell(const uint8_t *key, size_t key_length,
                                   uint32_t row, uint32_t column,
                                   uint32_t *sheet, size_t sheet_length);
 
-/* Answers "same" if the three numbers that morgana_evaluate answers for the first key at a point equal those for the
- * second, else "different"; the sheet is then as after evaluating the first key and then the second. Refuses as
- * morgana_check does for the first key, then for the second, and `key` says which; then with 35, 21, 22, 23, and 31 for
- * the key with more arrays, where `key` is 0. */
+/* Answers "same" if the three numbers that morgana_evaluate answers for the
+ * first key at a point equal those for the second, else "different"; the sheet
+ * is then as after evaluating the first key and then the second. Refuses as
+ * morgana_check does for the first key, then for the second, and `key` says
+ * which; then with 35, 21, 22, 23, and 31 for the key with more arrays, where
+ * `key` is 0. */
 MorganaCompareReply morgana_compare(const uint8_t *first, size_t first_length,
                                     const uint8_t *second, size_t second_length,
                                     const uint32_t *rows, size_t rows_length,
-                                    const uint32_t *columns, size_t columns_length,
+                                    const uint32_t *columns,
+                                    size_t columns_length,
                                     uint32_t *sheet, size_t sheet_length);
 
-/* Answers the last array's A, B and C at a point of two numbers a coordinate, and writes every array's six numbers into
- * the sheet, array i's at 6i; places from 6 * arrays on stay. Refuses as morgana_check does, then with 21, 22, 23, 31. */
-MorganaQuadraticReply morgana_evaluate_quadratic(const uint8_t *key, size_t key_length,
-                                                 const uint32_t *rows, size_t rows_length,
-                                                 const uint32_t *columns, size_t columns_length,
-                                                 uint32_t *sheet, size_t sheet_length);
+/* Answers the last array's A, B and C at a point of two numbers a coordinate,
+ * and writes every array's six numbers into the sheet, array i's at 6i; places
+ * from 6 * arrays on stay. Refuses as morgana_check does, then with 21, 22, 23,
+ * 31. */
+MorganaQuadraticReply
+morgana_evaluate_quadratic(const uint8_t *key, size_t key_length,
+                           const uint32_t *rows, size_t rows_length,
+                           const uint32_t *columns, size_t columns_length,
+                           uint32_t *sheet, size_t sheet_length);
 
-/* Answers "same" if the six numbers that morgana_evaluate_quadratic answers for the first key at a point equal those for
- * the second, else "different"; the sheet is then as after evaluating the first key and then the second. Refuses as
- * morgana_compare does. */
-MorganaCompareReply morgana_compare_quadratic(const uint8_t *first, size_t first_length,
-                                              const uint8_t *second, size_t second_length,
-                                              const uint32_t *rows, size_t rows_length,
-                                              const uint32_t *columns, size_t columns_length,
-                                              uint32_t *sheet, size_t sheet_length);
+/* Answers "same" if the six numbers that morgana_evaluate_quadratic answers for
+ * the first key at a point equal those for the second, else "different"; the
+ * sheet is then as after evaluating the first key and then the second. Refuses
+ * as morgana_compare does. */
+MorganaCompareReply
+morgana_compare_quadratic(const uint8_t *first, size_t first_length,
+                          const uint8_t *second, size_t second_length,
+                          const uint32_t *rows, size_t rows_length,
+                          const uint32_t *columns, size_t columns_length,
+                          uint32_t *sheet, size_t sheet_length);
 
 #ifdef __cplusplus
 }

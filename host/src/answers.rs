@@ -1,7 +1,8 @@
 //! What the library answers when nothing is refused.
 
-/// The counts of an accepted key, with its shape.
+/// The counts of an accepted key, with its shape. Later versions may answer more.
 #[derive(Debug, Clone, Copy, PartialEq, Eq)]
+#[non_exhaustive]
 pub struct Counts {
     /// How many arrays the key opens.
     pub arrays: u32,
@@ -13,6 +14,14 @@ pub struct Counts {
     pub rows: u32,
     /// The head's column bits n'.
     pub columns: u32,
+}
+
+/// What evaluate and cell answer: the values of the key's last array. Later versions may answer more.
+#[derive(Debug, Clone, Copy)]
+#[non_exhaustive]
+pub struct Evaluated<V> {
+    /// The values: [`Values`], or [`QuadraticValues`] over p².
+    pub values: V,
 }
 
 /// The values of the three matrices at a point or in a cell.
@@ -46,11 +55,14 @@ pub struct QuadraticValues {
     pub c: Quadratic,
 }
 
-/// What compare answers about two keys at a point.
-#[derive(Debug, Clone, Copy, PartialEq, Eq)]
-pub enum Compared {
-    /// The keys have the same A, the same B and the same C there.
-    Same,
-    /// The keys differ there in A, B or C.
-    Different,
+/// What compare answers about two keys at a point. Later versions may answer more.
+///
+/// ```compile_fail
+/// let compared = morgana::Compared { same: true };
+/// ```
+#[derive(Debug, Clone, Copy)]
+#[non_exhaustive]
+pub struct Compared {
+    /// Whether the keys have the same A, the same B and the same C there.
+    pub same: bool,
 }

@@ -1,13 +1,38 @@
-//! The calls of the library as safe functions: all unsafe code of the library and of keytool stands here.
+//! The calls of the library as safe functions: all unsafe code of this package's library stands here.
 #![allow(unsafe_code)]
 
-use crate::answers::{Compared, Counts, Quadratic, QuadraticValues, Values};
+use crate::answers::{Compared, Counts, Evaluated, Quadratic, QuadraticValues, Values};
+use crate::constants::INTERFACE;
 use crate::raw;
 use crate::refusal::{CompareRefusal, Refusal, Which};
+use std::sync::Once;
+
+/// Answers the version of the library that is linked: 1,000,000 for each major, 1,000 for each minor and 1 for each
+/// patch version.
+///
+/// ```
+/// let (major, rest) = (morgana::version() / 1_000_000, morgana::version() % 1_000_000);
+/// assert!(morgana::VERSION.starts_with(&format!("{major}.{}.", rest / 1_000)));
+/// ```
+pub fn version() -> u32 {
+    // SAFETY: the call takes nothing, and answers a number in every version.
+    unsafe { raw::morgana_version() }
+}
+
+/// Panics where the library that is linked has another interface: its replies may be longer than those declared here.
+fn same_interface() {
+    static COMPARED: Once = Once::new();
+    COMPARED.call_once(|| {
+        let linked = version() / 1_000;
+        assert_eq!(linked, INTERFACE, "libmorgana.a is of another version");
+    });
+}
 
 /// Answers the counts of an accepted key, with n and n'; or the first of refusals 1 to 13.
 pub fn check(key: &[u8]) -> Result<Counts, Refusal> {
-    // SAFETY: the pointer and the length are of one slice, which is lent until the call returns.
+    same_interface();
+    // SAFETY: the pointer and the length are of one slice, which is lent until the call returns; replies are of this
+    // interface.
     let reply = unsafe { raw::morgana_check(key.as_ptr(), key.len()) };
     refused(reply.number, reply.place)?;
     Ok(Counts {
@@ -26,10 +51,11 @@ pub fn evaluate(
     rows: &[u32],
     columns: &[u32],
     sheet: &mut [u32],
-) -> Result<Values, Refusal> {
+) -> Result<Evaluated<Values>, Refusal> {
+    same_interface();
     // SAFETY: each pointer and length are of one slice, lent until the call returns, and the sheet, lent for
-    // writing, overlaps no other.
-    values(unsafe {
+    // writing, overlaps no other; replies are of this interface.
+    evaluated(unsafe {
         raw::morgana_evaluate(
             key.as_ptr(),
             key.len(),
@@ -45,10 +71,16 @@ pub fn evaluate(
 
 /// Answers the last array's dense A, B and C at a row and a column, the sheet as after evaluate at the point of their
 /// bits; or refuses as check does, or with 24 or 31.
-pub fn cell(key: &[u8], row: u32, column: u32, sheet: &mut [u32]) -> Result<Values, Refusal> {
+pub fn cell(
+    key: &[u8],
+    row: u32,
+    column: u32,
+    sheet: &mut [u32],
+) -> Result<Evaluated<Values>, Refusal> {
+    same_interface();
     // SAFETY: each pointer and length are of one slice, lent until the call returns, and the sheet, lent for
-    // writing, overlaps no other.
-    values(unsafe {
+    // writing, overlaps no other; replies are of this interface.
+    evaluated(unsafe {
         raw::morgana_cell(
             key.as_ptr(),
             key.len(),
@@ -61,7 +93,10 @@ pub fn cell(key: &[u8], row: u32, column: u32, sheet: &mut [u32]) -> Result<Valu
 }
 
 /// Answers whether two keys of one shape have the same A, B and C at a point, the sheet as after evaluating the first
-/// and then the second; or refuses as check does, naming the key, or with 35, 21, 22, 23 or 31.
+/// and then the second; or refuses as check does, naming the key, or with 35, 21, 22, 23 or 31. The sheet needs three
+/// places for each array of the key with more arrays.
+///
+/// "Different" is certain; how sure "same" is at random points, [`Likelihood`](crate::Likelihood) says.
 pub fn compare(
     first: &[u8],
     second: &[u8],
@@ -69,8 +104,9 @@ pub fn compare(
     columns: &[u32],
     sheet: &mut [u32],
 ) -> Result<Compared, CompareRefusal> {
+    same_interface();
     // SAFETY: each pointer and length are of one slice, lent until the call returns, and the sheet, lent for
-    // writing, overlaps no other.
+    // writing, overlaps no other; replies are of this interface.
     compared(unsafe {
         raw::morgana_compare(
             first.as_ptr(),
@@ -95,9 +131,10 @@ pub fn evaluate_quadratic(
     rows: &[u32],
     columns: &[u32],
     sheet: &mut [u32],
-) -> Result<QuadraticValues, Refusal> {
+) -> Result<Evaluated<QuadraticValues>, Refusal> {
+    same_interface();
     // SAFETY: each pointer and length are of one slice, lent until the call returns, and the sheet, lent for
-    // writing, overlaps no other.
+    // writing, overlaps no other; replies are of this interface.
     let reply = unsafe {
         raw::morgana_evaluate_quadratic(
             key.as_ptr(),
@@ -112,16 +149,17 @@ pub fn evaluate_quadratic(
     };
     refused(reply.number, reply.place)?;
     let element = |u, v| Quadratic { u, v };
-    Ok(QuadraticValues {
+    let values = QuadraticValues {
         a: element(reply.a_u, reply.a_v),
         b: element(reply.b_u, reply.b_v),
         c: element(reply.c_u, reply.c_v),
-    })
+    };
+    Ok(Evaluated { values })
 }
 
 /// Answers whether two keys of one shape have the same A, B and C at a point whose coordinates are two numbers each,
 /// the sheet as after evaluating the first and then the second there; or refuses as compare does, counting numbers as
-/// evaluate_quadratic does.
+/// evaluate_quadratic does. The sheet needs six places for each array of the key with more arrays.
 pub fn compare_quadratic(
     first: &[u8],
     second: &[u8],
@@ -129,8 +167,9 @@ pub fn compare_quadratic(
     columns: &[u32],
     sheet: &mut [u32],
 ) -> Result<Compared, CompareRefusal> {
+    same_interface();
     // SAFETY: each pointer and length are of one slice, lent until the call returns, and the sheet, lent for
-    // writing, overlaps no other.
+    // writing, overlaps no other; replies are of this interface.
     compared(unsafe {
         raw::morgana_compare_quadratic(
             first.as_ptr(),
@@ -155,20 +194,20 @@ fn compared(reply: raw::CompareReply) -> Result<Compared, CompareRefusal> {
         _ => Which::Neither,
     };
     refused(reply.number, reply.place).map_err(|refusal| CompareRefusal { which, refusal })?;
-    Ok(match reply.same {
-        1 => Compared::Same,
-        _ => Compared::Different,
+    Ok(Compared {
+        same: reply.same == 1,
     })
 }
 
 /// The values of a reply, or its refusal.
-fn values(reply: raw::EvaluateReply) -> Result<Values, Refusal> {
+fn evaluated(reply: raw::EvaluateReply) -> Result<Evaluated<Values>, Refusal> {
     refused(reply.number, reply.place)?;
-    Ok(Values {
+    let values = Values {
         a: reply.a,
         b: reply.b,
         c: reply.c,
-    })
+    };
+    Ok(Evaluated { values })
 }
 
 /// The refusal of a reply, if it has one: 0 is the number of no refusal.

@@ -1,8 +1,9 @@
 //! Morgana circuit keys: checked, evaluated at a point, asked for single cells, and compared.
 //!
-//! The functions are safe Rust over the proved library `libmorgana.a`. A refused call leaves its sheet untouched.
-//! Points are from the field of p elements, or, for `evaluate_quadratic` and `compare_quadratic`, from that of the p²
-//! elements u + v·i with i² = -1, two numbers a coordinate.
+//! The functions are safe Rust over the library `libmorgana.a`, whose calls are proved to answer
+//! rightly for every input; this package around it is tested. None takes memory from the heap or
+//! keeps anything between calls, and [`STACK`] bytes of stack suffice for each. The first call
+//! panics where the library that is linked has another interface: another major or minor version.
 //!
 //! ```
 //! let key = [
@@ -15,30 +16,55 @@
 //! assert_eq!((counts.arrays, counts.cells, counts.calls), (1, 1, 0));
 //!
 //! let mut sheet = [0; 3];
-//! let values = morgana::evaluate(&key, &[], &[4], &mut sheet)?;
+//! let values = morgana::evaluate(&key, &[], &[4], &mut sheet)?.values;
 //! assert_eq!((values.a, values.b, values.c), (20, 28, 0));
 //! assert_eq!(sheet, [20, 28, 0]);
 //!
-//! let mut sheet = [0; 6];
-//! let values = morgana::evaluate_quadratic(&key, &[], &[4, 3], &mut sheet)?;
-//! assert_eq!((values.a.u, values.a.v), (20, 15));
-//! assert_eq!(sheet, [20, 15, 28, 21, 0, 0]);
-//!
 //! let refusal = morgana::check(&key[..4]).unwrap_err();
 //! assert_eq!(refusal.to_string(), "refused 2 at 3: record missing or cut off");
+//! assert_eq!(refusal.number, morgana::number::RECORD_INCOMPLETE);
 //! # Ok::<(), morgana::Refusal>(())
 //! ```
+//!
+//! # Points
+//!
+//! A point is n row coordinates and n' column coordinates, where n and n' are what [`check`]
+//! answers as `rows` and `columns`. A coordinate is a number below [`P`]; for
+//! [`evaluate_quadratic`] and [`compare_quadratic`] it is an element u + v·i of the field of p²
+//! elements, where i² = -1: two numbers, u and then v. [`RandomPoints`] draws points, and
+//! [`Likelihood`] says how sure "same" is at so many of them.
+//!
+//! # Sheets
+//!
+//! A sheet is a slice that every array's values are written into: array i's A, B and C at 3i,
+//! over p² its six numbers at 6i. It needs three places for each array (over p² six), and for a
+//! comparison that many for each array of the key with more arrays: it is first as after
+//! evaluating the first key, then the second key's values are written over them. Places behind
+//! stay. [`SHEET`] and [`SHEET_QUADRATIC`] places suffice for every key. A refused call leaves
+//! its sheet as it was.
+//!
+//! # Refusals
+//!
+//! What a call cannot work with it refuses with a number and a place: [`Refusal`] has the table.
 
 #![deny(missing_docs, unsafe_code)]
 
 mod answers;
 mod calls;
+mod constants;
+mod field;
+mod likelihood;
+pub mod number;
+mod point;
+mod random;
 pub mod raw;
 mod refusal;
 
-pub use answers::{Compared, Counts, Quadratic, QuadraticValues, Values};
-pub use calls::{cell, check, compare, compare_quadratic, evaluate, evaluate_quadratic};
+pub use answers::{Compared, Counts, Evaluated, Quadratic, QuadraticValues, Values};
+pub use calls::{cell, check, compare, compare_quadratic, evaluate, evaluate_quadratic, version};
+pub use constants::{KEY_LIMIT, MOST_ARRAYS, MOST_BITS, P, SHEET, SHEET_QUADRATIC, STACK, VERSION};
+pub use field::Field;
+pub use likelihood::Likelihood;
+pub use point::Point;
+pub use random::RandomPoints;
 pub use refusal::{CompareRefusal, Refusal, Which};
-
-/// The prime p: field numbers are 0 to p - 1.
-pub const P: u32 = 2_147_483_647;

@@ -119,6 +119,9 @@ const _: () = {
 };
 
 extern "C" {
+    /// The version of the library: 1,000,000 for each major, 1,000 for each minor, 1 for each patch version.
+    pub fn morgana_version() -> u32;
+
     /// Checks a key.
     pub fn morgana_check(key: *const u8, key_length: usize) -> CheckReply;
 

@@ -4,11 +4,44 @@ use std::error::Error;
 use std::fmt::{Display, Formatter, Result};
 
 /// A refusal: its number, and the place that the number gives a meaning to.
+///
+/// | number | condition | place |
+/// |---|---|---|
+/// | | **author of the key** | |
+/// | 1 | key over 65,536 bytes | 65536 |
+/// | 2 | record missing or cut off | offset of the record's first byte |
+/// | 3 | unknown kind | likewise |
+/// | 4 | record not allowed at this point, or end before any array | likewise |
+/// | 5 | head bits over 30, or array bits over the head's | likewise |
+/// | 6 | a 1,025th array | likewise |
+/// | 7 | cell address outside its array | likewise |
+/// | 8 | cell value p or more | likewise |
+/// | 9 | called id not earlier | likewise |
+/// | 10 | called array larger in rows or columns | likewise |
+/// | 11 | call position too great | likewise |
+/// | 12 | last array not of the head's shape | offset of the end |
+/// | 13 | bytes after the end | offset of the first |
+/// | | **sender of the point** | |
+/// | 21 | row count not n (over p²: not 2n numbers) | the count received |
+/// | 22 | column count not n' (over p²: not 2n' numbers) | the count received |
+/// | 23 | coordinate p or more | its index, rows first (over p²: the number's) |
+/// | 24 | row or column outside the last array | 0 for the row, 1 for the column |
+/// | | **calling program** | |
+/// | 31 | sheet below 3·arrays (over p²: 6·arrays) | the length needed |
+/// | 35 | shapes differ | 0 |
+///
+/// The numbers have names in [`number`](crate::number). Of several refusals the first is answered: check's own, then 35
+/// for compare, then 21, 22 and 23, or 24 for cell, then 31.
+///
+/// ```compile_fail
+/// let refusal = morgana::Refusal { number: 2, place: 0 };
+/// ```
 #[derive(Debug, Clone, Copy, PartialEq, Eq)]
+#[non_exhaustive]
 pub struct Refusal {
     /// The number of the condition that was met.
     pub number: u32,
-    /// Where: for 1 to 13 an offset in the key.
+    /// Where: what the table gives for the number.
     pub place: u64,
 }
 
@@ -68,6 +101,7 @@ pub enum Which {
 
 /// A refusal of compare, with the key that it is about.
 #[derive(Debug, Clone, Copy, PartialEq, Eq)]
+#[non_exhaustive]
 pub struct CompareRefusal {
     /// The key at fault.
     pub which: Which,
@@ -78,8 +112,8 @@ pub struct CompareRefusal {
 impl Display for CompareRefusal {
     fn fmt(&self, out: &mut Formatter) -> Result {
         match self.which {
-            Which::First => write!(out, "first key {}", self.refusal),
-            Which::Second => write!(out, "second key {}", self.refusal),
+            Which::First => write!(out, "{}; first key", self.refusal),
+            Which::Second => write!(out, "{}; second key", self.refusal),
             Which::Neither => write!(out, "{}", self.refusal),
         }
     }
@@ -128,11 +162,11 @@ mod tests {
         };
         assert_eq!(
             print(Which::First, 3),
-            "first key refused 3 at 0: unknown kind"
+            "refused 3 at 0: unknown kind; first key"
         );
         assert_eq!(
             print(Which::Second, 3),
-            "second key refused 3 at 0: unknown kind"
+            "refused 3 at 0: unknown kind; second key"
         );
         assert_eq!(print(Which::Neither, 35), "refused 35 at 0: shapes differ");
     }

@@ -1,4 +1,4 @@
-//! The archive held to the independent implementation on drawn keys, points and sheets: the
+//! The archive tested against the independent implementation on drawn keys, points and sheets: the
 //! answer, every field of the reply, every place of the sheet, and all that lies around what is
 //! lent. `MORGANA_SEED` and `MORGANA_CASES` give another seed and another number of cases.
 

@@ -1,11 +1,13 @@
-/* Holds morgana.h to libmorgana.a: the layout of the replies, and every field and lent number after a call. */
+/* Compares morgana.h with libmorgana.a: the layout of the replies, the constants, and every field and
+ * lent number after a call. */
 #include <morgana.h>
 
 #include <stdio.h>
 #include <stdlib.h>
 #include <string.h>
 
-#define LAYOUT(type, field, offset) _Static_assert(offsetof(type, field) == (offset), #type "." #field)
+#define LAYOUT(type, field, offset) \
+    _Static_assert(offsetof(type, field) == (offset), #type "." #field)
 
 _Static_assert(sizeof(MorganaCheckReply) == 40, "size of MorganaCheckReply");
 LAYOUT(MorganaCheckReply, number, 0);
@@ -39,7 +41,7 @@ LAYOUT(MorganaCompareReply, place, 8);
 LAYOUT(MorganaCompareReply, key, 16);
 LAYOUT(MorganaCompareReply, same, 20);
 
-/* How many numbers were held to what is wanted, and how many were not as wanted. */
+/* How many numbers were compared with what is wanted, and how many were not as wanted. */
 static unsigned held, faults;
 
 static void want(int line, const char *what, uint64_t wanted, uint64_t got)
@@ -120,11 +122,17 @@ static void written(int line, size_t count, const uint32_t *numbers)
     }
 }
 
-#define CHECK(key, length, ...) checked(__LINE__, morgana_check(key, length), (MorganaCheckReply){__VA_ARGS__})
-#define EVALUATED(call, ...) (fresh(), evaluated(__LINE__, call, (MorganaEvaluateReply){__VA_ARGS__}))
-#define QUADRATIC(call, ...) (fresh(), quadratic(__LINE__, call, (MorganaQuadraticReply){__VA_ARGS__}))
-#define COMPARED(call, ...) (fresh(), compared(__LINE__, call, (MorganaCompareReply){__VA_ARGS__}))
-#define SHEET(...) written(__LINE__, sizeof(uint32_t[]){__VA_ARGS__} / sizeof(uint32_t), (uint32_t[]){__VA_ARGS__})
+#define CHECK(key, length, ...) \
+    checked(__LINE__, morgana_check(key, length), (MorganaCheckReply){__VA_ARGS__})
+#define EVALUATED(call, ...) \
+    (fresh(), evaluated(__LINE__, call, (MorganaEvaluateReply){__VA_ARGS__}))
+#define QUADRATIC(call, ...) \
+    (fresh(), quadratic(__LINE__, call, (MorganaQuadraticReply){__VA_ARGS__}))
+#define COMPARED(call, ...) \
+    (fresh(), compared(__LINE__, call, (MorganaCompareReply){__VA_ARGS__}))
+#define REFUSED(name, at) .number = (name), .place = (at)
+#define SHEET(...) \
+    written(__LINE__, sizeof(uint32_t[]){__VA_ARGS__} / sizeof(uint32_t), (uint32_t[]){__VA_ARGS__})
 #define UNTOUCHED() written(__LINE__, 0, NULL)
 
 /* The key of the keysheet example; its last byte is no part of it. */
@@ -141,7 +149,12 @@ enum { LENGTH = 53 };
 
 /* One empty array of the sample's shape; one cell and no bits; a byte that is no kind. */
 static const uint8_t empty[] = {1, 1, 1, 2, 1, 1, 6};
-static const uint8_t single[] = {1, 0, 0, 2, 0, 0, 4, 0, 0, 0, 0, 0, 0, 0, 0, 1, 0, 0, 0, 2, 0, 0, 0, 3, 0, 0, 0, 6};
+static const uint8_t single[] = {
+    1, 0, 0,
+    2, 0, 0,
+    4, 0, 0, 0, 0, 0, 0, 0, 0, 1, 0, 0, 0, 2, 0, 0, 0, 3, 0, 0, 0,
+    6,
+};
 static const uint8_t unknown[] = {7};
 
 static const uint32_t three[] = {3}, four[] = {4, 4}, prime[] = {MORGANA_P};
@@ -150,42 +163,148 @@ static const uint32_t three[] = {3}, four[] = {4, 4}, prime[] = {MORGANA_P};
 static const uint32_t imaginary[] = {0, 1, 2}, greatest[] = {MORGANA_P - 1, MORGANA_P - 1};
 static const uint32_t three_zero[] = {3, 0}, four_zero[] = {4, 0}, v_prime[] = {3, MORGANA_P};
 
+/* The numbers that the request gives the refusals. */
+static void numbers(void)
+{
+#define NUMBER(name, number) want(__LINE__, #name, number, name)
+    NUMBER(MORGANA_NOT_REFUSED, 0);
+    NUMBER(MORGANA_KEY_TOO_LONG, 1);
+    NUMBER(MORGANA_RECORD_INCOMPLETE, 2);
+    NUMBER(MORGANA_KIND_UNKNOWN, 3);
+    NUMBER(MORGANA_RECORD_MISPLACED, 4);
+    NUMBER(MORGANA_BITS_TOO_MANY, 5);
+    NUMBER(MORGANA_ARRAYS_TOO_MANY, 6);
+    NUMBER(MORGANA_CELL_OUTSIDE, 7);
+    NUMBER(MORGANA_VALUE_TOO_GREAT, 8);
+    NUMBER(MORGANA_CALLED_NOT_EARLIER, 9);
+    NUMBER(MORGANA_CALLED_TOO_LARGE, 10);
+    NUMBER(MORGANA_POSITION_TOO_GREAT, 11);
+    NUMBER(MORGANA_LAST_SHAPE_WRONG, 12);
+    NUMBER(MORGANA_BYTES_AFTER_END, 13);
+    NUMBER(MORGANA_ROW_COUNT_WRONG, 21);
+    NUMBER(MORGANA_COLUMN_COUNT_WRONG, 22);
+    NUMBER(MORGANA_COORDINATE_TOO_GREAT, 23);
+    NUMBER(MORGANA_ADDRESS_OUTSIDE, 24);
+    NUMBER(MORGANA_SHEET_TOO_SHORT, 31);
+    NUMBER(MORGANA_SHAPES_DIFFER, 35);
+}
+
+/* A key without bits that has so many arrays, all empty; its length. */
+static size_t arrays_of(size_t count, uint8_t *key)
+{
+    static const uint8_t head[] = {1, 0, 0}, array[] = {2, 0, 0};
+    memcpy(key, head, 3);
+    for (size_t i = 0; i < count; i++)
+        memcpy(key + 3 + 3 * i, array, 3);
+    key[3 + 3 * count] = 6;
+    return 4 + 3 * count;
+}
+
+/* A key of as many bytes as a key may have, and one byte behind its end. */
+static void key_limit(void)
+{
+    static uint8_t key[MORGANA_KEY_LIMIT + 1];
+    enum { ARRAYS = 4, CELLS = 3120 };
+    size_t at = arrays_of(ARRAYS, key) - 1;
+    for (int i = 0; i < CELLS; i++, at += 21)
+        key[at] = 4;
+    key[at++] = 6;
+    want(__LINE__, "length", MORGANA_KEY_LIMIT, at);
+    CHECK(key, MORGANA_KEY_LIMIT, 0, 0, ARRAYS, CELLS, 0, 0, 0);
+    CHECK(key, MORGANA_KEY_LIMIT + 1, REFUSED(MORGANA_KEY_TOO_LONG, MORGANA_KEY_LIMIT));
+}
+
+/* A sheet for every key suffices for as many arrays as a key may have, and one place less does
+ * not; one more array is refused. */
+static void arrays_limit(void)
+{
+    static uint8_t key[4 + 3 * (MORGANA_MOST_ARRAYS + 1)];
+    static uint32_t lent_sheet[MORGANA_SHEET_QUADRATIC];
+    size_t length = arrays_of(MORGANA_MOST_ARRAYS, key);
+    CHECK(key, length, 0, 0, MORGANA_MOST_ARRAYS, 0, 0, 0, 0);
+#define ON(places) NULL, 0, NULL, 0, lent_sheet, places
+    EVALUATED(morgana_evaluate(key, length, ON(MORGANA_SHEET)), 0, 0, 0, 0, 0);
+    EVALUATED(morgana_evaluate(key, length, ON(MORGANA_SHEET - 1)),
+              REFUSED(MORGANA_SHEET_TOO_SHORT, MORGANA_SHEET));
+    COMPARED(morgana_compare(key, length, key, length, ON(MORGANA_SHEET)), 0, 0, 0, 1);
+    QUADRATIC(morgana_evaluate_quadratic(key, length, ON(MORGANA_SHEET_QUADRATIC)),
+              0, 0, 0, 0, 0, 0, 0, 0);
+    QUADRATIC(morgana_evaluate_quadratic(key, length, ON(MORGANA_SHEET_QUADRATIC - 1)),
+              REFUSED(MORGANA_SHEET_TOO_SHORT, MORGANA_SHEET_QUADRATIC));
+    COMPARED(morgana_compare_quadratic(key, length, key, length, ON(MORGANA_SHEET_QUADRATIC)),
+             0, 0, 0, 1);
+    length = arrays_of(MORGANA_MOST_ARRAYS + 1, key);
+    CHECK(key, length, REFUSED(MORGANA_ARRAYS_TOO_MANY, length - 4));
+}
+
+/* As many row and column bits as a key may have, and one more of either. */
+static void bits_limit(void)
+{
+    enum { MOST = MORGANA_MOST_BITS };
+    const uint8_t most[] = {1, MOST, MOST, 2, MOST, MOST, 6};
+    const uint8_t rows_over[] = {1, MOST + 1, 0, 2, MOST + 1, 0, 6};
+    const uint8_t columns_over[] = {1, 0, MOST + 1, 2, 0, MOST + 1, 6};
+    CHECK(most, sizeof most, 0, 0, 1, 0, 0, MOST, MOST);
+    CHECK(rows_over, sizeof rows_over, REFUSED(MORGANA_BITS_TOO_MANY, 0));
+    CHECK(columns_over, sizeof columns_over, REFUSED(MORGANA_BITS_TOO_MANY, 0));
+}
+
+static void constants(void)
+{
+    want(__LINE__, "version", MORGANA_VERSION, morgana_version());
+    want(__LINE__, "p", 2147483647, MORGANA_P);
+    key_limit();
+    arrays_limit();
+    bits_limit();
+}
+
 static void check_calls(void)
 {
-    static uint8_t longest[65537];
+    static uint8_t zeros[MORGANA_KEY_LIMIT + 1];
     CHECK(sample, LENGTH, 0, 0, 2, 1, 2, 1, 1);
     CHECK(single, sizeof single, 0, 0, 1, 1, 0, 0, 0);
-    CHECK(longest, 65537, 1, 65536, 0, 0, 0, 0, 0);
-    CHECK(longest, 65536, 3, 0, 0, 0, 0, 0, 0);
-    CHECK(NULL, 0, 2, 0, 0, 0, 0, 0, 0);
-    CHECK(sample, LENGTH - 1, 2, 52, 0, 0, 0, 0, 0);
-    CHECK(unknown, 1, 3, 0, 0, 0, 0, 0, 0);
-    CHECK(sample + 3, LENGTH - 3, 4, 0, 0, 0, 0, 0, 0);
-    CHECK(sample, LENGTH + 1, 13, 53, 0, 0, 0, 0, 0);
+    CHECK(zeros, sizeof zeros, REFUSED(MORGANA_KEY_TOO_LONG, MORGANA_KEY_LIMIT));
+    CHECK(zeros, MORGANA_KEY_LIMIT, REFUSED(MORGANA_KIND_UNKNOWN, 0));
+    CHECK(NULL, 0, REFUSED(MORGANA_RECORD_INCOMPLETE, 0));
+    CHECK(sample, LENGTH - 1, REFUSED(MORGANA_RECORD_INCOMPLETE, 52));
+    CHECK(unknown, 1, REFUSED(MORGANA_KIND_UNKNOWN, 0));
+    CHECK(sample + 3, LENGTH - 3, REFUSED(MORGANA_RECORD_MISPLACED, 0));
+    CHECK(sample, LENGTH + 1, REFUSED(MORGANA_BYTES_AFTER_END, 53));
 }
 
 static void evaluate_calls(void)
 {
-    EVALUATED(morgana_evaluate(sample, LENGTH, three, 1, four, 1, sheet, PLACES), 0, 0, 2147483567, 2147483535, 0);
+    EVALUATED(morgana_evaluate(sample, LENGTH, three, 1, four, 1, sheet, PLACES),
+              0, 0, 2147483567, 2147483535, 0);
     SHEET(20, 28, 0, 2147483567, 2147483535, 0);
-    EVALUATED(morgana_evaluate(sample, LENGTH, three, 1, four, 1, sheet, 6), 0, 0, 2147483567, 2147483535, 0);
+    EVALUATED(morgana_evaluate(sample, LENGTH, three, 1, four, 1, sheet, 6),
+              0, 0, 2147483567, 2147483535, 0);
     SHEET(20, 28, 0, 2147483567, 2147483535, 0);
-    EVALUATED(morgana_evaluate(single, sizeof single, NULL, 0, NULL, 0, sheet, PLACES), 0, 0, 1, 2, 3);
+    EVALUATED(morgana_evaluate(single, sizeof single, NULL, 0, NULL, 0, sheet, PLACES),
+              0, 0, 1, 2, 3);
     SHEET(1, 2, 3);
-    EVALUATED(morgana_evaluate(NULL, 0, NULL, 0, NULL, 0, NULL, 0), 2, 0, 0, 0, 0);
-    EVALUATED(morgana_evaluate(unknown, 1, prime, 1, four, 2, sheet, 0), 3, 0, 0, 0, 0);
+    EVALUATED(morgana_evaluate(NULL, 0, NULL, 0, NULL, 0, NULL, 0),
+              REFUSED(MORGANA_RECORD_INCOMPLETE, 0));
+    EVALUATED(morgana_evaluate(unknown, 1, prime, 1, four, 2, sheet, 0),
+              REFUSED(MORGANA_KIND_UNKNOWN, 0));
     UNTOUCHED();
-    EVALUATED(morgana_evaluate(sample, LENGTH, NULL, 0, four, 2, sheet, 0), 21, 0, 0, 0, 0);
+    EVALUATED(morgana_evaluate(sample, LENGTH, NULL, 0, four, 2, sheet, 0),
+              REFUSED(MORGANA_ROW_COUNT_WRONG, 0));
     UNTOUCHED();
-    EVALUATED(morgana_evaluate(sample, LENGTH, prime, 1, four, 2, sheet, 0), 22, 2, 0, 0, 0);
+    EVALUATED(morgana_evaluate(sample, LENGTH, prime, 1, four, 2, sheet, 0),
+              REFUSED(MORGANA_COLUMN_COUNT_WRONG, 2));
     UNTOUCHED();
-    EVALUATED(morgana_evaluate(sample, LENGTH, prime, 1, prime, 1, sheet, 0), 23, 0, 0, 0, 0);
+    EVALUATED(morgana_evaluate(sample, LENGTH, prime, 1, prime, 1, sheet, 0),
+              REFUSED(MORGANA_COORDINATE_TOO_GREAT, 0));
     UNTOUCHED();
-    EVALUATED(morgana_evaluate(sample, LENGTH, three, 1, prime, 1, sheet, PLACES), 23, 1, 0, 0, 0);
+    EVALUATED(morgana_evaluate(sample, LENGTH, three, 1, prime, 1, sheet, PLACES),
+              REFUSED(MORGANA_COORDINATE_TOO_GREAT, 1));
     UNTOUCHED();
-    EVALUATED(morgana_evaluate(sample, LENGTH, three, 1, four, 1, sheet, 5), 31, 6, 0, 0, 0);
+    EVALUATED(morgana_evaluate(sample, LENGTH, three, 1, four, 1, sheet, 5),
+              REFUSED(MORGANA_SHEET_TOO_SHORT, 6));
     UNTOUCHED();
-    EVALUATED(morgana_evaluate(sample, LENGTH, three, 1, four, 1, NULL, 0), 31, 6, 0, 0, 0);
+    EVALUATED(morgana_evaluate(sample, LENGTH, three, 1, four, 1, NULL, 0),
+              REFUSED(MORGANA_SHEET_TOO_SHORT, 6));
 }
 
 static void cell_calls(void)
@@ -194,14 +313,16 @@ static void cell_calls(void)
     SHEET(5, 7, 0, 10, 14, 0);
     EVALUATED(morgana_cell(sample, LENGTH, 1, 1, sheet, 6), 0, 0, 0, 0, 0);
     SHEET(5, 7, 0, 0, 0, 0);
-    EVALUATED(morgana_cell(NULL, 0, 0, 0, NULL, 0), 2, 0, 0, 0, 0);
-    EVALUATED(morgana_cell(sample, LENGTH + 1, 2, 2, sheet, 0), 13, 53, 0, 0, 0);
+    EVALUATED(morgana_cell(NULL, 0, 0, 0, NULL, 0), REFUSED(MORGANA_RECORD_INCOMPLETE, 0));
+    EVALUATED(morgana_cell(sample, LENGTH + 1, 2, 2, sheet, 0),
+              REFUSED(MORGANA_BYTES_AFTER_END, 53));
     UNTOUCHED();
-    EVALUATED(morgana_cell(sample, LENGTH, 2, 2, sheet, 0), 24, 0, 0, 0, 0);
+    EVALUATED(morgana_cell(sample, LENGTH, 2, 2, sheet, 0), REFUSED(MORGANA_ADDRESS_OUTSIDE, 0));
     UNTOUCHED();
-    EVALUATED(morgana_cell(sample, LENGTH, 1, UINT32_MAX, sheet, PLACES), 24, 1, 0, 0, 0);
+    EVALUATED(morgana_cell(sample, LENGTH, 1, UINT32_MAX, sheet, PLACES),
+              REFUSED(MORGANA_ADDRESS_OUTSIDE, 1));
     UNTOUCHED();
-    EVALUATED(morgana_cell(sample, LENGTH, 0, 1, sheet, 5), 31, 6, 0, 0, 0);
+    EVALUATED(morgana_cell(sample, LENGTH, 0, 1, sheet, 5), REFUSED(MORGANA_SHEET_TOO_SHORT, 6));
     UNTOUCHED();
 }
 
@@ -210,9 +331,10 @@ static void compare_calls(void)
     uint8_t other[LENGTH];
     memcpy(other, sample, LENGTH);
     other[15] = 6;
-#define COMPARE(first, first_length, second, second_length, rows, rows_length, columns, columns_length, length, ...) \
-    COMPARED(morgana_compare(first, first_length, second, second_length, rows, rows_length, columns, columns_length, \
-                             sheet, length), __VA_ARGS__)
+#define COMPARE(first, first_length, second, second_length, rows, rows_length, columns, \
+                columns_length, length, ...) \
+    COMPARED(morgana_compare(first, first_length, second, second_length, rows, rows_length, \
+                             columns, columns_length, sheet, length), __VA_ARGS__)
     COMPARE(sample, LENGTH, sample, LENGTH, three, 1, four, 1, PLACES, 0, 0, 0, 1);
     SHEET(20, 28, 0, 2147483567, 2147483535, 0);
     COMPARE(sample, LENGTH, other, LENGTH, three, 1, four, 1, 6, 0, 0, 0, 0);
@@ -221,50 +343,61 @@ static void compare_calls(void)
     SHEET(0, 0, 0, 2147483567, 2147483535, 0);
     COMPARE(single, sizeof single, single, sizeof single, NULL, 0, NULL, 0, PLACES, 0, 0, 0, 1);
     SHEET(1, 2, 3);
-    COMPARE(unknown, 1, NULL, 0, NULL, 0, NULL, 0, 0, 3, 0, 1, 0);
+    COMPARE(unknown, 1, NULL, 0, NULL, 0, NULL, 0, 0, REFUSED(MORGANA_KIND_UNKNOWN, 0), .key = 1);
     UNTOUCHED();
-    COMPARE(sample, LENGTH, sample, 52, NULL, 0, NULL, 0, 0, 2, 52, 2, 0);
+    COMPARE(sample, LENGTH, sample, 52, NULL, 0, NULL, 0, 0,
+            REFUSED(MORGANA_RECORD_INCOMPLETE, 52), .key = 2);
     UNTOUCHED();
-    COMPARE(sample, LENGTH, single, sizeof single, NULL, 0, NULL, 0, 0, 35, 0, 0, 0);
+    COMPARE(sample, LENGTH, single, sizeof single, NULL, 0, NULL, 0, 0,
+            REFUSED(MORGANA_SHAPES_DIFFER, 0));
     UNTOUCHED();
-    COMPARE(sample, LENGTH, empty, sizeof empty, four, 2, NULL, 0, 0, 21, 2, 0, 0);
+    COMPARE(sample, LENGTH, empty, sizeof empty, four, 2, NULL, 0, 0,
+            REFUSED(MORGANA_ROW_COUNT_WRONG, 2));
     UNTOUCHED();
-    COMPARE(sample, LENGTH, empty, sizeof empty, three, 1, NULL, 0, 0, 22, 0, 0, 0);
+    COMPARE(sample, LENGTH, empty, sizeof empty, three, 1, NULL, 0, 0,
+            REFUSED(MORGANA_COLUMN_COUNT_WRONG, 0));
     UNTOUCHED();
-    COMPARE(sample, LENGTH, empty, sizeof empty, three, 1, prime, 1, 0, 23, 1, 0, 0);
+    COMPARE(sample, LENGTH, empty, sizeof empty, three, 1, prime, 1, 0,
+            REFUSED(MORGANA_COORDINATE_TOO_GREAT, 1));
     UNTOUCHED();
-    COMPARE(empty, sizeof empty, sample, LENGTH, three, 1, four, 1, 5, 31, 6, 0, 0);
+    COMPARE(empty, sizeof empty, sample, LENGTH, three, 1, four, 1, 5,
+            REFUSED(MORGANA_SHEET_TOO_SHORT, 6));
     UNTOUCHED();
 }
 
 static void evaluate_quadratic_calls(void)
 {
 #define EVALUATE(key, key_length, rows, rows_length, columns, columns_length, length, ...) \
-    QUADRATIC(morgana_evaluate_quadratic(key, key_length, rows, rows_length, columns, columns_length, sheet, length), \
-              __VA_ARGS__)
+    QUADRATIC(morgana_evaluate_quadratic(key, key_length, rows, rows_length, columns, \
+                                         columns_length, sheet, length), __VA_ARGS__)
     /* 5 and 7 times -1 - i, and both times 2 * (1 - i): -20 and -28. */
-    EVALUATE(sample, LENGTH, imaginary, 2, greatest, 2, PLACES, 0, 0, 2147483627, 0, 2147483619, 0, 0, 0);
+    EVALUATE(sample, LENGTH, imaginary, 2, greatest, 2, PLACES,
+             0, 0, 2147483627, 0, 2147483619, 0, 0, 0);
     SHEET(2147483642, 2147483642, 2147483640, 2147483640, 0, 0, 2147483627, 0, 2147483619, 0, 0, 0);
-    EVALUATE(sample, LENGTH, three_zero, 2, four_zero, 2, 12, 0, 0, 2147483567, 0, 2147483535, 0, 0, 0);
+    EVALUATE(sample, LENGTH, three_zero, 2, four_zero, 2, 12,
+             0, 0, 2147483567, 0, 2147483535, 0, 0, 0);
     SHEET(20, 0, 28, 0, 0, 0, 2147483567, 0, 2147483535, 0, 0, 0);
     EVALUATE(single, sizeof single, NULL, 0, NULL, 0, PLACES, 0, 0, 1, 0, 2, 0, 3, 0);
     SHEET(1, 0, 2, 0, 3, 0);
-    QUADRATIC(morgana_evaluate_quadratic(NULL, 0, NULL, 0, NULL, 0, NULL, 0), 2, 0, 0, 0, 0, 0, 0, 0);
-    EVALUATE(unknown, 1, prime, 1, four, 1, 0, 3, 0, 0, 0, 0, 0, 0, 0);
+    QUADRATIC(morgana_evaluate_quadratic(NULL, 0, NULL, 0, NULL, 0, NULL, 0),
+              REFUSED(MORGANA_RECORD_INCOMPLETE, 0));
+    EVALUATE(unknown, 1, prime, 1, four, 1, 0, REFUSED(MORGANA_KIND_UNKNOWN, 0));
     UNTOUCHED();
-    EVALUATE(sample, LENGTH, prime, 1, four, 1, 0, 21, 1, 0, 0, 0, 0, 0, 0);
+    EVALUATE(sample, LENGTH, prime, 1, four, 1, 0, REFUSED(MORGANA_ROW_COUNT_WRONG, 1));
     UNTOUCHED();
-    EVALUATE(sample, LENGTH, imaginary, 3, four, 1, 0, 21, 3, 0, 0, 0, 0, 0, 0);
+    EVALUATE(sample, LENGTH, imaginary, 3, four, 1, 0, REFUSED(MORGANA_ROW_COUNT_WRONG, 3));
     UNTOUCHED();
-    EVALUATE(sample, LENGTH, v_prime, 2, four, 1, 0, 22, 1, 0, 0, 0, 0, 0, 0);
+    EVALUATE(sample, LENGTH, v_prime, 2, four, 1, 0, REFUSED(MORGANA_COLUMN_COUNT_WRONG, 1));
     UNTOUCHED();
-    EVALUATE(sample, LENGTH, v_prime, 2, v_prime, 2, 0, 23, 1, 0, 0, 0, 0, 0, 0);
+    EVALUATE(sample, LENGTH, v_prime, 2, v_prime, 2, 0, REFUSED(MORGANA_COORDINATE_TOO_GREAT, 1));
     UNTOUCHED();
-    EVALUATE(sample, LENGTH, imaginary, 2, v_prime, 2, PLACES, 23, 3, 0, 0, 0, 0, 0, 0);
+    EVALUATE(sample, LENGTH, imaginary, 2, v_prime, 2, PLACES,
+             REFUSED(MORGANA_COORDINATE_TOO_GREAT, 3));
     UNTOUCHED();
-    EVALUATE(sample, LENGTH, imaginary, 2, greatest, 2, 11, 31, 12, 0, 0, 0, 0, 0, 0);
+    EVALUATE(sample, LENGTH, imaginary, 2, greatest, 2, 11, REFUSED(MORGANA_SHEET_TOO_SHORT, 12));
     UNTOUCHED();
-    QUADRATIC(morgana_evaluate_quadratic(sample, LENGTH, imaginary, 2, greatest, 2, NULL, 0), 31, 12, 0, 0, 0, 0, 0, 0);
+    QUADRATIC(morgana_evaluate_quadratic(sample, LENGTH, imaginary, 2, greatest, 2, NULL, 0),
+              REFUSED(MORGANA_SHEET_TOO_SHORT, 12));
 }
 
 static void compare_quadratic_calls(void)
@@ -272,33 +405,46 @@ static void compare_quadratic_calls(void)
     uint8_t other[LENGTH];
     memcpy(other, sample, LENGTH);
     other[15] = 6;
-#define COMPARE_QUADRATIC(first, first_length, second, second_length, rows, rows_length, columns, columns_length, length, ...) \
-    COMPARED(morgana_compare_quadratic(first, first_length, second, second_length, rows, rows_length, columns, \
-                                       columns_length, sheet, length), __VA_ARGS__)
-    COMPARE_QUADRATIC(sample, LENGTH, sample, LENGTH, imaginary, 2, greatest, 2, PLACES, 0, 0, 0, 1);
+#define COMPARE_QUADRATIC(first, first_length, second, second_length, rows, rows_length, columns, \
+                          columns_length, length, ...) \
+    COMPARED(morgana_compare_quadratic(first, first_length, second, second_length, rows, \
+                                       rows_length, columns, columns_length, sheet, length), \
+             __VA_ARGS__)
+    COMPARE_QUADRATIC(sample, LENGTH, sample, LENGTH, imaginary, 2, greatest, 2, PLACES,
+                      0, 0, 0, 1);
     SHEET(2147483642, 2147483642, 2147483640, 2147483640, 0, 0, 2147483627, 0, 2147483619, 0, 0, 0);
     COMPARE_QUADRATIC(sample, LENGTH, other, LENGTH, imaginary, 2, greatest, 2, 12, 0, 0, 0, 0);
     SHEET(2147483641, 2147483641, 2147483640, 2147483640, 0, 0, 2147483623, 0, 2147483619, 0, 0, 0);
-    COMPARE_QUADRATIC(sample, LENGTH, empty, sizeof empty, imaginary, 2, greatest, 2, PLACES, 0, 0, 0, 0);
+    COMPARE_QUADRATIC(sample, LENGTH, empty, sizeof empty, imaginary, 2, greatest, 2, PLACES,
+                      0, 0, 0, 0);
     SHEET(0, 0, 0, 0, 0, 0, 2147483627, 0, 2147483619, 0, 0, 0);
-    COMPARE_QUADRATIC(unknown, 1, NULL, 0, NULL, 0, NULL, 0, 0, 3, 0, 1, 0);
+    COMPARE_QUADRATIC(unknown, 1, NULL, 0, NULL, 0, NULL, 0, 0,
+                      REFUSED(MORGANA_KIND_UNKNOWN, 0), .key = 1);
     UNTOUCHED();
-    COMPARE_QUADRATIC(sample, LENGTH, sample, 52, NULL, 0, NULL, 0, 0, 2, 52, 2, 0);
+    COMPARE_QUADRATIC(sample, LENGTH, sample, 52, NULL, 0, NULL, 0, 0,
+                      REFUSED(MORGANA_RECORD_INCOMPLETE, 52), .key = 2);
     UNTOUCHED();
-    COMPARE_QUADRATIC(sample, LENGTH, single, sizeof single, NULL, 0, NULL, 0, 0, 35, 0, 0, 0);
+    COMPARE_QUADRATIC(sample, LENGTH, single, sizeof single, NULL, 0, NULL, 0, 0,
+                      REFUSED(MORGANA_SHAPES_DIFFER, 0));
     UNTOUCHED();
-    COMPARE_QUADRATIC(sample, LENGTH, empty, sizeof empty, three, 1, NULL, 0, 0, 21, 1, 0, 0);
+    COMPARE_QUADRATIC(sample, LENGTH, empty, sizeof empty, three, 1, NULL, 0, 0,
+                      REFUSED(MORGANA_ROW_COUNT_WRONG, 1));
     UNTOUCHED();
-    COMPARE_QUADRATIC(sample, LENGTH, empty, sizeof empty, v_prime, 2, NULL, 0, 0, 22, 0, 0, 0);
+    COMPARE_QUADRATIC(sample, LENGTH, empty, sizeof empty, v_prime, 2, NULL, 0, 0,
+                      REFUSED(MORGANA_COLUMN_COUNT_WRONG, 0));
     UNTOUCHED();
-    COMPARE_QUADRATIC(sample, LENGTH, empty, sizeof empty, imaginary, 2, v_prime, 2, 0, 23, 3, 0, 0);
+    COMPARE_QUADRATIC(sample, LENGTH, empty, sizeof empty, imaginary, 2, v_prime, 2, 0,
+                      REFUSED(MORGANA_COORDINATE_TOO_GREAT, 3));
     UNTOUCHED();
-    COMPARE_QUADRATIC(empty, sizeof empty, sample, LENGTH, imaginary, 2, greatest, 2, 11, 31, 12, 0, 0);
+    COMPARE_QUADRATIC(empty, sizeof empty, sample, LENGTH, imaginary, 2, greatest, 2, 11,
+                      REFUSED(MORGANA_SHEET_TOO_SHORT, 12));
     UNTOUCHED();
 }
 
 int main(void)
 {
+    numbers();
+    constants();
     check_calls();
     evaluate_calls();
     cell_calls();

@@ -1,8 +1,8 @@
 //! The safe functions give each field of the library's replies its name.
 
 use morgana::{cell, check, compare, compare_quadratic, evaluate, evaluate_quadratic};
-use morgana::{CompareRefusal, Compared, Counts, Quadratic, QuadraticValues, Refusal, Values};
-use morgana::{Which, P};
+use morgana::{CompareRefusal, Compared, Refusal, Which, P};
+use morgana::{KEY_LIMIT, MOST_ARRAYS, MOST_BITS, SHEET, SHEET_QUADRATIC, VERSION};
 
 /// The key of the keysheet example.
 const SAMPLE: [u8; 53] = [
@@ -16,30 +16,78 @@ const EMPTY: [u8; 7] = [1, 1, 1, 2, 1, 1, 6];
 /// What stands on the sheet before a call.
 const LENT: [u32; 8] = [101, 102, 103, 104, 105, 106, 107, 108];
 
-fn refusal(number: u32, place: u64) -> Refusal {
-    Refusal { number, place }
+/// A refusal's number and place.
+fn told(refusal: Refusal) -> (u32, u64) {
+    (refusal.number, refusal.place)
+}
+
+/// Compare's answer: whether the keys are the same, or the key at fault with the refusal.
+fn compared(answer: Result<Compared, CompareRefusal>) -> Result<bool, (Which, (u32, u64))> {
+    match answer {
+        Ok(compared) => Ok(compared.same),
+        Err(refused) => Err((refused.which, told(refused.refusal))),
+    }
+}
+
+/// A refusal of compare that names neither key.
+fn neither(told: (u32, u64)) -> Result<bool, (Which, (u32, u64))> {
+    Err((Which::Neither, told))
 }
 
 #[test]
 fn check_answers_counts() {
-    let (arrays, cells, calls, rows, columns) = (2, 1, 2, 1, 1);
-    let counts = Counts {
-        arrays,
-        cells,
-        calls,
-        rows,
-        columns,
+    let counts = check(&SAMPLE).expect("the key is accepted");
+    assert_eq!((counts.arrays, counts.cells, counts.calls), (2, 1, 2));
+    assert_eq!((counts.rows, counts.columns), (1, 1));
+    assert_eq!(check(&[]).map_err(told), Err((2, 0)));
+}
+
+#[test]
+fn the_versions_agree() {
+    let parts: Vec<u32> = VERSION
+        .split('.')
+        .map(|part| part.parse().expect("a number"))
+        .collect();
+    let [major, minor, patch] = parts[..] else {
+        panic!("{VERSION} has not three parts")
     };
-    assert_eq!(check(&SAMPLE), Ok(counts));
-    assert_eq!(check(&[]), Err(refusal(2, 0)));
+    assert_eq!(
+        morgana::version(),
+        1_000_000 * major + 1_000 * minor + patch
+    );
+}
+
+#[test]
+fn the_limits_are_the_library_s() {
+    let arrays = |count: usize| [&[1, 0, 0][..], &[2, 0, 0].repeat(count), &[6]].concat();
+    let most = arrays(MOST_ARRAYS);
+    assert_eq!(check(&most).map(|it| it.arrays as usize), Ok(MOST_ARRAYS));
+    assert_eq!(
+        check(&arrays(MOST_ARRAYS + 1)).map_err(told),
+        Err((6, 3075))
+    );
+    assert!(evaluate(&most, &[], &[], &mut vec![0; SHEET]).is_ok());
+    let short = evaluate(&most, &[], &[], &mut vec![0; SHEET - 1]);
+    assert_eq!(short.err().map(told), Some((31, SHEET as u64)));
+    assert!(evaluate_quadratic(&most, &[], &[], &mut vec![0; SHEET_QUADRATIC]).is_ok());
+    let short = evaluate_quadratic(&most, &[], &[], &mut vec![0; SHEET_QUADRATIC - 1]);
+    assert_eq!(short.err().map(told), Some((31, SHEET_QUADRATIC as u64)));
+    let bits = |bits: u32| [1, bits as u8, 0, 2, bits as u8, 0, 6];
+    assert!(check(&bits(MOST_BITS)).is_ok());
+    assert_eq!(check(&bits(MOST_BITS + 1)).map_err(told), Err((5, 0)));
+    let over = vec![0; KEY_LIMIT + 1];
+    assert_eq!(check(&over).map_err(told), Err((1, KEY_LIMIT as u64)));
+    assert_eq!(check(&over[..KEY_LIMIT]).map_err(told), Err((3, 0)));
 }
 
 #[test]
 fn evaluate_answers_values_and_writes_the_sheet() {
     let mut sheet = LENT;
     let (a, b, c) = (2147483567, 2147483535, 0);
-    let evaluated = evaluate(&SAMPLE, &[3], &[4], &mut sheet);
-    assert_eq!(evaluated, Ok(Values { a, b, c }));
+    let values = evaluate(&SAMPLE, &[3], &[4], &mut sheet)
+        .expect("the point fits")
+        .values;
+    assert_eq!((values.a, values.b, values.c), (a, b, c));
     assert_eq!(sheet, [20, 28, 0, a, b, c, 107, 108]);
 }
 
@@ -47,7 +95,10 @@ fn evaluate_answers_values_and_writes_the_sheet() {
 fn cell_answers_values_and_writes_the_sheet() {
     let mut sheet = LENT;
     let (a, b, c) = (10, 14, 0);
-    assert_eq!(cell(&SAMPLE, 0, 1, &mut sheet), Ok(Values { a, b, c }));
+    let values = cell(&SAMPLE, 0, 1, &mut sheet)
+        .expect("the cell is there")
+        .values;
+    assert_eq!((values.a, values.b, values.c), (a, b, c));
     assert_eq!(sheet, [5, 7, 0, a, b, c, 107, 108]);
 }
 
@@ -55,30 +106,27 @@ fn cell_answers_values_and_writes_the_sheet() {
 fn compare_answers_and_leaves_the_second_key_over_the_first() {
     let mut sheet = LENT;
     let same = compare(&SAMPLE, &SAMPLE, &[3], &[4], &mut sheet);
-    assert_eq!(same, Ok(Compared::Same));
+    assert_eq!(compared(same), Ok(true));
     let different = compare(&SAMPLE, &EMPTY, &[3], &[4], &mut sheet);
-    assert_eq!(different, Ok(Compared::Different));
+    assert_eq!(compared(different), Ok(false));
     assert_eq!(sheet, [0, 0, 0, 2147483567, 2147483535, 0, 107, 108]);
 }
 
 #[test]
 fn both_parts_have_their_names() {
     let mut sheet = [9; 13];
-    let evaluated = evaluate_quadratic(&SAMPLE, &[3, 1], &[4, 2], &mut sheet);
+    let values = evaluate_quadratic(&SAMPLE, &[3, 1], &[4, 2], &mut sheet)
+        .expect("it fits")
+        .values;
     // 2·(4 + 2i)·(1 - 3 - i) is -12 - 16i.
-    let element = |u, v| Quadratic { u, v };
-    let values = QuadraticValues {
-        a: element(P - 60, P - 80),
-        b: element(P - 84, P - 112),
-        c: element(0, 0),
-    };
-    assert_eq!(evaluated, Ok(values));
+    let parts = [values.a, values.b, values.c].map(|element| (element.u, element.v));
+    assert_eq!(parts, [(P - 60, P - 80), (P - 84, P - 112), (0, 0)]);
     assert_eq!(sheet[..6], [20, 10, 28, 14, 0, 0]);
     assert_eq!(sheet[6..], [P - 60, P - 80, P - 84, P - 112, 0, 0, 9]);
     let same = compare_quadratic(&SAMPLE, &SAMPLE, &[3, 1], &[4, 2], &mut sheet);
-    assert_eq!(same, Ok(Compared::Same));
+    assert_eq!(compared(same), Ok(true));
     let different = compare_quadratic(&SAMPLE, &EMPTY, &[3, 1], &[4, 2], &mut sheet);
-    assert_eq!(different, Ok(Compared::Different));
+    assert_eq!(compared(different), Ok(false));
     assert_eq!(sheet[..6], [0; 6]);
 }
 
@@ -86,28 +134,23 @@ fn both_parts_have_their_names() {
 fn a_refused_call_over_both_parts_leaves_the_sheet() {
     let mut sheet = [9; 12];
     for (rows, columns, length, wanted) in [
-        (&[3][..], &[4, 2][..], 12, refusal(21, 1)),
-        (&[3, 1], &[4, 2, 5, 6], 12, refusal(22, 4)),
-        (&[3, P], &[4, P], 12, refusal(23, 1)),
-        (&[3, 1], &[4, 2], 11, refusal(31, 12)),
+        (&[3][..], &[4, 2][..], 12, (21, 1)),
+        (&[3, 1], &[4, 2, 5, 6], 12, (22, 4)),
+        (&[3, P], &[4, P], 12, (23, 1)),
+        (&[3, 1], &[4, 2], 11, (31, 12)),
     ] {
         let sheet = &mut sheet[..length];
         let answer = evaluate_quadratic(&SAMPLE, rows, columns, sheet);
-        assert_eq!(answer, Err(wanted));
-        let neither = Err(CompareRefusal {
-            which: Which::Neither,
-            refusal: wanted,
-        });
+        assert_eq!(answer.err().map(told), Some(wanted));
         let answer = compare_quadratic(&SAMPLE, &EMPTY, rows, columns, sheet);
-        assert_eq!(answer, neither);
+        assert_eq!(compared(answer), neither(wanted));
     }
     for (first, second, which) in [
         (&SAMPLE[..52], &SAMPLE[..], Which::First),
         (&SAMPLE, &SAMPLE[..52], Which::Second),
     ] {
         let answer = compare_quadratic(first, second, &[], &[], &mut sheet);
-        let refusal = refusal(2, 52);
-        assert_eq!(answer, Err(CompareRefusal { which, refusal }));
+        assert_eq!(compared(answer), Err((which, (2, 52))));
     }
     assert_eq!(sheet, [9; 12]);
 }
@@ -116,22 +159,22 @@ fn a_refused_call_over_both_parts_leaves_the_sheet() {
 fn a_refused_call_leaves_the_sheet() {
     let mut sheet = LENT;
     for (rows, columns, length, wanted) in [
-        (&[][..], &[4][..], 8, refusal(21, 0)),
-        (&[3], &[4, 5], 8, refusal(22, 2)),
-        (&[3], &[P], 8, refusal(23, 1)),
-        (&[3], &[4], 5, refusal(31, 6)),
+        (&[][..], &[4][..], 8, (21, 0)),
+        (&[3], &[4, 5], 8, (22, 2)),
+        (&[3], &[P], 8, (23, 1)),
+        (&[3], &[4], 5, (31, 6)),
     ] {
         let sheet = &mut sheet[..length];
-        assert_eq!(evaluate(&SAMPLE, rows, columns, sheet), Err(wanted));
-        let neither = Err(CompareRefusal {
-            which: Which::Neither,
-            refusal: wanted,
-        });
-        assert_eq!(compare(&SAMPLE, &EMPTY, rows, columns, sheet), neither);
+        let answer = evaluate(&SAMPLE, rows, columns, sheet);
+        assert_eq!(answer.err().map(told), Some(wanted));
+        let answer = compare(&SAMPLE, &EMPTY, rows, columns, sheet);
+        assert_eq!(compared(answer), neither(wanted));
     }
-    assert_eq!(cell(&SAMPLE, 2, 2, &mut sheet), Err(refusal(24, 0)));
-    assert_eq!(cell(&SAMPLE, 1, 2, &mut sheet), Err(refusal(24, 1)));
-    assert_eq!(cell(&SAMPLE, 1, 1, &mut []), Err(refusal(31, 6)));
+    let cell_of =
+        |row, column, sheet: &mut [u32]| cell(&SAMPLE, row, column, sheet).err().map(told);
+    assert_eq!(cell_of(2, 2, &mut sheet), Some((24, 0)));
+    assert_eq!(cell_of(1, 2, &mut sheet), Some((24, 1)));
+    assert_eq!(cell_of(1, 1, &mut []), Some((31, 6)));
     assert_eq!(sheet, LENT);
 }
 
@@ -139,14 +182,11 @@ fn a_refused_call_leaves_the_sheet() {
 fn compare_names_the_key_at_fault() {
     let other = [1, 0, 1, 2, 0, 1, 6];
     for (first, second, which, wanted) in [
-        (&SAMPLE[..52], &[7][..], Which::First, refusal(2, 52)),
-        (&SAMPLE, &[7], Which::Second, refusal(3, 0)),
-        (&SAMPLE, &other, Which::Neither, refusal(35, 0)),
+        (&SAMPLE[..52], &[7][..], Which::First, (2, 52)),
+        (&SAMPLE, &[7], Which::Second, (3, 0)),
+        (&SAMPLE, &other, Which::Neither, (35, 0)),
     ] {
-        let refused = Err(CompareRefusal {
-            which,
-            refusal: wanted,
-        });
-        assert_eq!(compare(first, second, &[3], &[4], &mut [0; 6]), refused);
+        let answer = compare(first, second, &[3], &[4], &mut [0; 6]);
+        assert_eq!(compared(answer), Err((which, wanted)));
     }
 }

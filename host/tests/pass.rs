@@ -1,4 +1,4 @@
-//! The independent implementation held to itself: the pass and the check written for speed to the
+//! The independent implementation beside itself: the pass and the check written for speed, and the
 //! unrolled matrices and the plain check.
 
 mod cases;

@@ -1,4 +1,4 @@
-//! The archive held to the independent implementation over every window of coordinates that can weigh
+//! The archive tested against the independent implementation over every window of coordinates that can weigh
 //! a call, at every number of records, and on keys of narrow and wide arrays: wherever weights may be
 //! worked out in one way or in another. `MORGANA_SEED` gives another seed.
 

@@ -18,7 +18,7 @@ from .programs import CRATES, cases_over_p_squared, files_of, public_cases
 
 
 def main(arguments):
-    """Writes the files of each program, or holds them to what it would write."""
+    """Writes the files of each program, or compares them with what it would write."""
     if arguments == ["--help"]:
         print(__doc__.strip())
         return 0

@@ -139,7 +139,7 @@ def tower_case(cases, draw, levels, unroll, name=None):
 
 
 def tower_cases(cases, draw):
-    """Keys of many levels; the closed form is held to the unrolled one where the levels are few."""
+    """Keys of many levels; the closed form is compared with the unrolled one where the levels are few."""
     for count in (0, 1, 3, 6, 9, 12):
         tower_case(cases, draw, drawn_levels(draw, count, 3), True)
     for count in (40, 60, 90, 120):

@@ -1,4 +1,4 @@
-"""The program keysheet, held to tests/unroll. __main__ takes the program's path, and says how it went.
+"""The program keysheet, tested against tests/unroll. __main__ takes the program's path, and says how it went.
 
 runs       every case, run: what keysheet prints, and what is unrolled
 feeds      the ways to run the program on an input

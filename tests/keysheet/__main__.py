@@ -1,4 +1,4 @@
-"""Holds the program keysheet to tests/unroll: both answer the same inputs, and what they print is compared byte for byte.
+"""Tests the program keysheet against tests/unroll: both answer the same inputs, and what they print is compared byte for byte.
 
 The inputs are the edges that the request names, inputs written in pieces and read from a file, and inputs drawn at
 random, whole and damaged. Each number of refusal that keysheet can give, and the acceptance of a key, must have
@@ -14,7 +14,7 @@ from .runs import REFUSALS, Failed, hold_all
 
 
 def main():
-    """Holds the program to tests/unroll and says how it went."""
+    """Tests the program against tests/unroll and says how it went."""
     parser = argparse.ArgumentParser(
         prog="python3 -B -m tests.keysheet",
         description=__doc__,

@@ -1,4 +1,4 @@
-"""Every case, run: what keysheet prints is held to what is unrolled."""
+"""Every case, run: what keysheet prints is compared with what is unrolled."""
 
 import subprocess
 from collections import Counter

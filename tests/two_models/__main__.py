@@ -1,4 +1,4 @@
-"""Holds tests/model to tests/unroll on drawn keys, points and sheets, over p and over p²: both unroll a key, each in its
+"""Compares tests/model with tests/unroll on drawn keys, points and sheets, over p and over p²: both unroll a key, each in its
 own way.
 
 The points have numbers 0, 1, 2, p - 1 and any others; some have every number p - 1. Keys, points and sheets are whole or

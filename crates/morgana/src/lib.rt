@@ -13,6 +13,7 @@ ghost use Rattle.evaluation.specs.Evaluate.{evaluated};
 ghost use Rattle.comparison.specs.AgreementBound.{Agreement};
 ghost use Rattle.comparison.specs.Compare.{compared};
 ghost use Rattle.morgana.specs.Reply.{checkReply, evaluateReply, quadraticReply, compareReply};
+ghost use Rattle.morgana.specs.Version.{version};
 
 // The reply to check: an accepted key's counts of arrays, cells and calls, and its row bits and column bits.
 #[repr(C)]
@@ -56,6 +57,14 @@ pub struct CompareReply {
     pub place: u64,
     pub key: u32,
     pub same: u32,
+}
+
+// The version of the library: 1,000,000 for each major, 1,000 for each minor, 1 for each patch version.
+#[no_mangle]
+pub extern "C" fn morgana_version() -> u32
+    ensures { λ r. ⌜ r ≡ version ⌝ }
+{
+    2000
 }
 
 // Whether bytes are an accepted key: its counts, or the first fault with its place.

@@ -33,13 +33,17 @@ pub fn evaluate(
     columns: &[u32],
     sheet: &mut [u32],
 ) -> Result<[u32; 3], Refusal> {
-    let answer = morgana::evaluate(key, rows, columns, sheet).map_err(refusal)?;
+    let answer = morgana::evaluate(key, rows, columns, sheet)
+        .map_err(refusal)?
+        .values;
     Ok([answer.a, answer.b, answer.c])
 }
 
 /// Cell's answer through the safe call.
 pub fn cell(key: &[u8], row: u32, column: u32, sheet: &mut [u32]) -> Result<[u32; 3], Refusal> {
-    let answer = morgana::cell(key, row, column, sheet).map_err(refusal)?;
+    let answer = morgana::cell(key, row, column, sheet)
+        .map_err(refusal)?
+        .values;
     Ok([answer.a, answer.b, answer.c])
 }
 
@@ -61,7 +65,9 @@ pub fn evaluate_quadratic(
     columns: &[u32],
     sheet: &mut [u32],
 ) -> Result<[Quadratic; 3], Refusal> {
-    let answer = morgana::evaluate_quadratic(key, rows, columns, sheet).map_err(refusal)?;
+    let answer = morgana::evaluate_quadratic(key, rows, columns, sheet)
+        .map_err(refusal)?
+        .values;
     Ok([answer.a, answer.b, answer.c].map(|element| [element.u, element.v]))
 }
 
@@ -81,7 +87,7 @@ pub fn compare_quadratic(
 /// An answer of compare in the terms of the independent implementation.
 fn compared(answer: Result<Compared, morgana::CompareRefusal>) -> Result<bool, CompareRefusal> {
     match answer {
-        Ok(answer) => Ok(answer == Compared::Same),
+        Ok(answer) => Ok(answer.same),
         Err(refused) => Err(CompareRefusal {
             key: match refused.which {
                 Which::First => 1,

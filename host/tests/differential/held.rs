@@ -1,4 +1,4 @@
-//! One case of each call: the archive's answer, by the safe call and by the raw one, held to the
+//! One case of each call: the archive's answer, by the safe call and by the raw one, beside the
 //! independent implementation's.
 
 use crate::archive::{self, Served};

@@ -1,4 +1,4 @@
-//! Keys of 65,536 bytes, held to closed forms.
+//! Keys of 65,536 bytes, compared with closed forms.
 
 use crate::generator::random::Random;
 use crate::independent::field::{sum, Fp};
@@ -52,7 +52,7 @@ fn full_of_calls() {
     assert_eq!(dense(&full, greatest, 0), Ok([0; 3]));
 }
 
-/// A key of 65,536 bytes of both, held to the pass.
+/// A key of 65,536 bytes of both, compared with the pass.
 #[test]
 fn full_of_both() {
     let mut random = Random::of_case(6, 0);

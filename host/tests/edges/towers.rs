@@ -1,4 +1,4 @@
-//! Keys as deep as they can be, held to closed forms.
+//! Keys as deep as they can be, compared with closed forms.
 //!
 //! A level that calls the level before it once at 0 and twice at 1 of a new row bit multiplies its
 //! value by 1 - r + 2r = 1 + r, and its dense value by 2 where the bit is 1. A level of the same
@@ -41,7 +41,7 @@ fn of_ones_and_coordinates(coordinates: &[u32]) -> u32 {
     factors.fold(1, product)
 }
 
-/// Holds a tower to its closed forms, at a point and in single cells.
+/// Compares a tower with its closed forms, at a point and in single cells.
 fn hold_tower(bits: u8, doublings: usize) {
     let key = tower(bits, doublings);
     let arrays = 1 + u32::from(bits) + doublings as u32;

@@ -84,7 +84,7 @@ def weight_cases(cases, draw):
 
 
 def tower_cases(cases, draw):
-    """Keys of many levels; the closed form is held to the unrolled one where the levels are few."""
+    """Keys of many levels; the closed form is compared with the unrolled one where the levels are few."""
     values = (P - 1, 2, 3)
     for count in (0, 3, 9, 40, 120):
         levels = drawn_levels(draw, count, 3)

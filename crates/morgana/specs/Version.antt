@@ -1,0 +1,6 @@
+-- The version of the library as one number: 1,000,000 for each major, 1,000 for each minor, 1 for each patch version.
+use Prim.Native.Nat.{ℕ}
+
+-- 0.2.0
+abbrev pub version : ℕ
+version = 2000

@@ -1,0 +1,69 @@
+/* compare FIRST SECOND: compares two key files at a random point over p*p.
+ * Prints `same`, `different` or `refused N at P`, with the key at fault behind
+ * it. The status is 0, 1 or 2, and 3 where anything else is wrong. Compile it
+ * with the shared or with the static library:
+ *
+ *   cc compare.c -o compare $(pkg-config --cflags --libs morgana)
+ *   cc compare.c -o compare $(pkg-config --cflags morgana) \
+ *      $(pkg-config --variable=libdir morgana)/libmorgana.a
+ */
+#include <err.h>
+#include <inttypes.h>
+#include <morgana.h>
+#include <stdio.h>
+#include <sys/random.h>
+
+/* One byte more than a key may have, so that a longer file is refused. */
+enum { ROOM = MORGANA_KEY_LIMIT + 1 };
+
+static size_t read_key(const char *path, uint8_t bytes[ROOM])
+{
+    FILE *file = fopen(path, "rb");
+    size_t length = file != NULL ? fread(bytes, 1, ROOM, file) : 0;
+    if (file == NULL || ferror(file))
+        err(3, "%s", path);
+    fclose(file);
+    return length;
+}
+
+/* Draws numbers of 31 bits, each of them again where it is p. */
+static void draw(uint32_t *numbers, size_t count)
+{
+    for (size_t i = 0; i < count; i++)
+        do {
+            if (getrandom(&numbers[i], sizeof numbers[i], 0) < 4)
+                err(3, "getrandom");
+            numbers[i] &= MORGANA_P;
+        } while (numbers[i] == MORGANA_P);
+}
+
+int main(int argc, char **argv)
+{
+    static const char *const at_fault[] = {"", "; first key", "; second key"};
+    static uint8_t first[ROOM], second[ROOM];
+    static uint32_t sheet[MORGANA_SHEET_QUADRATIC];
+    uint32_t rows[2 * MORGANA_MOST_BITS], columns[2 * MORGANA_MOST_BITS];
+    if (argc != 3)
+        errx(3, "usage: compare FIRST SECOND");
+    if (morgana_version() / 1000 != MORGANA_VERSION / 1000)
+        errx(3, "libmorgana is not of the version that this is compiled for");
+    size_t first_length = read_key(argv[1], first);
+    size_t second_length = read_key(argv[2], second);
+
+    /* Where the first key is refused, it has no bits, and is refused again. */
+    MorganaCheckReply bits = morgana_check(first, first_length);
+    draw(rows, 2 * bits.rows);
+    draw(columns, 2 * bits.columns);
+    MorganaCompareReply reply = morgana_compare_quadratic(
+        first, first_length, second, second_length, rows, 2 * bits.rows,
+        columns, 2 * bits.columns, sheet, MORGANA_SHEET_QUADRATIC);
+
+    if (reply.number == MORGANA_NOT_REFUSED)
+        puts(reply.same ? "same" : "different");
+    else
+        printf("refused %" PRIu32 " at %" PRIu64 "%s\n", reply.number,
+               reply.place, at_fault[reply.key]);
+    if (fflush(stdout) != 0)
+        err(3, "standard output");
+    return reply.number == MORGANA_NOT_REFUSED ? !reply.same : 2;
+}

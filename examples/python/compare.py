@@ -1,0 +1,73 @@
+"""Compares two circuit keys at one random point over p*p.
+
+    python3 compare.py OLD NEW
+
+Prints `same`, with a bound on how likely keys that differ would pass, or
+`different`, or the refusal. The status is 0 for same, 1 for different, 2 for a
+refusal, and 3 for anything else.
+"""
+
+import decimal
+import sys
+
+try:
+    import morgana
+except ImportError as error:
+    # Python's own status for an error is 1, which stands for different here.
+    print(error, file=sys.stderr)
+    sys.exit(3)
+
+UPWARDS = decimal.Context(prec=2, rounding=decimal.ROUND_CEILING)
+
+
+def read(path):
+    """The key in a file, or as much of it as shows that it is too long."""
+    with open(path, "rb") as file:
+        return file.read(morgana.KEY_LIMIT + 1)
+
+
+def shape(key):
+    """n and n' of the first key."""
+    try:
+        counts = morgana.check(key)
+    except morgana.Refused as refusal:
+        # Check has one key and names none; here it is the first.
+        raise morgana.Refused(refusal.number, refusal.place, 1) from None
+    return counts.rows, counts.columns
+
+
+def compare(old, new):
+    """Prints what is found of two keys, and returns the status."""
+    bits = shape(old)
+    rows, columns = morgana.random_point(*bits, quadratic=True)
+    if not morgana.compare_quadratic(old, new, rows, columns).same:
+        print("different")
+        return 1
+    bound = morgana.likelihood(sum(bits), quadratic=True)
+    number = UPWARDS.divide(bound.numerator, bound.denominator)
+    print("same")
+    print(f"keys that differ would pass with probability at most {number:g}")
+    return 0
+
+
+def main(paths):
+    """Compares the keys in two files, and returns the status."""
+    if len(paths) != 2:
+        print("usage: compare.py OLD NEW", file=sys.stderr)
+        return 3
+    try:
+        return compare(*map(read, paths))
+    except morgana.Refused as refusal:
+        print(refusal)
+        return 2
+
+
+if __name__ == "__main__":
+    try:
+        status = main(sys.argv[1:])
+        # An answer that cannot be written is none: closing shows that.
+        sys.stdout.close()
+    except Exception as error:
+        print(error, file=sys.stderr)
+        status = 3
+    sys.exit(status)

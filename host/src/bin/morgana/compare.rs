@@ -1,0 +1,224 @@
+//! The command that compares keys.
+
+use crate::commands::{point_detail, refused};
+use crate::fault::detail;
+use crate::files::Name;
+use crate::outcome::{About, Failure, Outcome, Source, Tried, Verdict};
+use crate::progress::Progress;
+use morgana::{number, CompareRefusal, Counts, Field, Likelihood, Point, RandomPoints, Which};
+use morgana::{Compared, SHEET_QUADRATIC};
+
+/// The points at which keys are to be compared.
+#[derive(Debug, Clone, PartialEq, Eq)]
+pub enum Points {
+    /// As many random ones as bring the bound on keys that differ below 2^-80.
+    Enough,
+    /// So many random ones.
+    Number(u32),
+    /// Those of a file.
+    File(Name),
+}
+
+/// How keys are to be compared.
+#[derive(Debug, Clone, PartialEq, Eq)]
+pub struct Manner {
+    /// At which points.
+    pub points: Points,
+    /// The field that they are from.
+    pub field: Field,
+    /// Whether the points are left out of the answer.
+    pub quiet: bool,
+}
+
+impl Manner {
+    /// The points of a file, where it is they that are to be tried; they are read once for all pairs of keys.
+    pub fn given(&self) -> Result<Given, Failure> {
+        match &self.points {
+            Points::File(file) => Ok(Some((file.clone(), file.points()?))),
+            _ => Ok(None),
+        }
+    }
+}
+
+/// The points of a file, with its name.
+pub type Given = Option<(Name, Vec<Point>)>;
+
+/// Whether two keys are the same, and the points behind that.
+pub fn compare(
+    old: &Name,
+    new: &Name,
+    manner: &Manner,
+    given: &Given,
+    progress: &mut Progress,
+) -> Result<Outcome, Failure> {
+    let (first, second) = (old.key()?, new.key()?);
+    let trial = match Trial::of((old, &first), (new, &second), manner) {
+        Ok(trial) => trial,
+        Err(refused) => return Ok(refused),
+    };
+    if first == second {
+        return Ok(Outcome::Compared(Verdict::Identical, Vec::new()));
+    }
+    match given {
+        Some((file, points)) => {
+            let all = points.iter().cloned().map(Ok);
+            trial.run(all, points.len() as u32, Some(file), progress)
+        }
+        None => trial.run_at_random(progress),
+    }
+}
+
+/// Two accepted keys that are compared.
+struct Trial<'a> {
+    old: Side<'a>,
+    new: Side<'a>,
+    manner: &'a Manner,
+}
+
+/// One of the keys.
+struct Side<'a> {
+    name: &'a Name,
+    key: &'a [u8],
+    counts: Counts,
+}
+
+impl<'a> Trial<'a> {
+    /// The keys of two files, or the refusal of the first that is none.
+    fn of(
+        (old, first): (&'a Name, &'a [u8]),
+        (new, second): (&'a Name, &'a [u8]),
+        manner: &'a Manner,
+    ) -> Result<Trial<'a>, Outcome> {
+        let side = |name, key, about: fn(Name) -> About| match morgana::check(key) {
+            Ok(counts) => Ok(Side { name, key, counts }),
+            Err(refusal) => Err(refused(refusal, detail(key, refusal), about(name.clone()))),
+        };
+        Ok(Trial {
+            old: side(old, first, About::Old)?,
+            new: side(new, second, About::New)?,
+            manner,
+        })
+    }
+
+    /// The counts whose row bits and column bits a point goes by.
+    fn shape(&self) -> Counts {
+        self.old.counts
+    }
+
+    /// The coordinates of a point.
+    fn m(&self) -> u32 {
+        self.shape().rows + self.shape().columns
+    }
+
+    /// Compares the keys at random points.
+    fn run_at_random(&self, progress: &mut Progress) -> Result<Outcome, Failure> {
+        let (field, m) = (self.manner.field, self.m());
+        let count = match self.manner.points {
+            Points::Number(count) => count,
+            _ => Likelihood::points(field, m),
+        };
+        let Counts { rows, columns, .. } = self.shape();
+        let random = RandomPoints::new(rows, columns, field);
+        let mut random = random.map_err(Failure::Random)?;
+        let points = (0..count).map(|_| random.draw().map_err(Failure::Random));
+        self.run(points, count, None, progress)
+    }
+
+    /// Compares the keys at one of so many points after the other, which are from a file or were drawn, up to one where they
+    /// are different.
+    fn run(
+        &self,
+        points: impl Iterator<Item = Result<Point, Failure>>,
+        count: u32,
+        file: Option<&Name>,
+        progress: &mut Progress,
+    ) -> Result<Outcome, Failure> {
+        let (mut tried, mut used) = (0, Vec::new());
+        for point in points {
+            let point = point?;
+            tried += 1;
+            progress.at(tried, count);
+            let same = match self.compare_at(&point) {
+                Ok(compared) => compared.same,
+                Err(refused) => return Ok(self.refused(refused, &point, tried, file)),
+            };
+            if !same {
+                used.clear();
+            }
+            if !self.manner.quiet {
+                used.push(point);
+            }
+            if !same {
+                let verdict = Verdict::Different(tried, self.tried(count, file));
+                return Ok(Outcome::Compared(verdict, used));
+            }
+        }
+        let verdict = Verdict::Same(self.tried(tried, file));
+        Ok(Outcome::Compared(verdict, used))
+    }
+
+    /// What so many points from a file, or drawn, say.
+    fn tried(&self, count: u32, file: Option<&Name>) -> Tried {
+        let (field, m) = (self.manner.field, self.m());
+        let source = match file {
+            Some(file) => Source::File(file.clone()),
+            None => Source::Drawn(Likelihood::new(field, m, count)),
+        };
+        Tried {
+            field,
+            m,
+            count,
+            source,
+        }
+    }
+
+    /// Compares the keys at one point.
+    fn compare_at(&self, point: &Point) -> Result<Compared, CompareRefusal> {
+        let compare = match self.manner.field {
+            Field::Prime => morgana::compare,
+            Field::Quadratic => morgana::compare_quadratic,
+        };
+        let (first, second) = (self.old.key, self.new.key);
+        let mut sheet = [0; SHEET_QUADRATIC];
+        compare(first, second, &point.rows, &point.columns, &mut sheet)
+    }
+
+    /// The refusal of the shapes, or of a point with its number.
+    fn refused(
+        &self,
+        refused_for: CompareRefusal,
+        point: &Point,
+        number: u32,
+        file: Option<&Name>,
+    ) -> Outcome {
+        let refusal = refused_for.refusal;
+        if refusal.number == number::SHAPES_DIFFER {
+            return refused(refusal, Some(self.shapes()), About::Both);
+        }
+        let about = match (refused_for.which, file) {
+            (Which::First, _) => About::Old(self.old.name.clone()),
+            (Which::Second, _) => About::New(self.new.name.clone()),
+            (Which::Neither, Some(file)) => About::Point(file.clone(), number as usize),
+            (Which::Neither, None) => About::Both,
+        };
+        let detail = point_detail(refusal, point, self.shape(), self.manner.field);
+        refused(refusal, detail, about)
+    }
+
+    /// The shapes of both keys in words.
+    fn shapes(&self) -> String {
+        let bits = |counts: Counts| {
+            format!(
+                "row bits {} and column bits {}",
+                counts.rows, counts.columns
+            )
+        };
+        format!(
+            "old key {} has {}, new key {} {}",
+            self.old.name,
+            bits(self.old.counts),
+            self.new.name,
+            bits(self.new.counts)
+        )
+    }
+}

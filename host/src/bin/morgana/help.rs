@@ -1,0 +1,99 @@
+//! How the program is used.
+
+/// The name and version of the program.
+pub const VERSION: &str = concat!("morgana ", env!("CARGO_PKG_VERSION"), "\n");
+
+/// What the program does, for people.
+pub const HELP: &str = "\
+morgana: checks, shows, evaluates and compares Morgana circuit keys
+
+A KEY is a file that holds one key, or - for standard input. Values are modulo
+p = 2147483647.
+
+  morgana check KEY...
+      Prints the key's length, its counts, its row bits and its column bits:
+      key 53 bytes arrays 2 cells 1 calls 2 rows 1 columns 1
+      Of several keys each line names its file.
+
+  morgana show KEY
+      Prints each record on a line: its offset in the file, its kind and its
+      fields. Of a refused key it prints the records up to the one at fault,
+      which is marked with >, and then the refusal.
+
+  morgana evaluate KEY [--point FILE] [--quadratic]
+      Evaluates the key at a random point (--random asks for the same), or at
+      each point in FILE, up to one that is refused. Prints the point, then for
+      each array its number, A, B and C, and last the key's own A, B and C,
+      which are those of the last array.
+
+  morgana cell KEY ROW COLUMN
+      Prints A, B and C at one row and column of the key's matrices, both
+      counted from 0.
+
+  morgana compare OLD NEW [--points N | --point FILE] [--quadratic] [--quiet]
+  morgana compare --pairs FILE ...
+      Compares two keys of one shape at random points: as many as bring the
+      probability that keys that differ would pass below 2^-80 (at most 4), or
+      N of them (1 to 1000000), or at the points in FILE, for which no bound is
+      given. Prints `same` or `different`, what that rests on, and then the
+      points; for `different` the first point that shows it. With --quiet no
+      points are printed.
+      Where OLD and NEW are folders, the files of the same path below them are
+      compared; with --pairs those on each line of FILE, which has an old and
+      a new file name with a tab or a space between. Each pair then has one
+      line; its points are printed with --json alone.
+
+  morgana --help, morgana COMMAND --help    Prints this page.
+  morgana --version                         Prints the version.
+
+Options
+  --quadratic  Takes coordinates from the field of the p² elements u + v·i,
+               where i² is -1. A coordinate is two numbers, u and then v, and
+               so are A, B and C.
+  --json       Prints answers as JSON, one object a line; JSON.md, which is
+               installed in share/doc/morgana, describes them.
+  A value may stand behind its option or behind =, as in --points=3. A file
+  whose name begins with - goes behind --, as in: morgana check -- -key
+
+What \"same\" means
+  Two keys are the same where the dense matrices A, B and C of their last
+  arrays are equal in every cell, modulo p. How the keys are made up of arrays
+  does not matter, and arrays that are never called do not count. The order of
+  constraints and of witness numbers does: keys whose rows or columns are
+  permuted are different. `different` is certain. `same` is certain where the
+  files are identical, and where the matrices have one place (no row bits and
+  no column bits); else it has the bound that is printed, for points drawn at
+  random once both keys are fixed. A bound below 1.0e-38 is printed as that.
+
+Point file
+  Two lines for each point, as evaluate and compare print them; their whole
+  output may be given, JSON too. Each line has a word and then the coordinates,
+  decimal numbers between spaces; a line without coordinates is the word alone.
+      rows 3 2147483646
+      columns 4
+  With --quadratic a coordinate is two numbers: `rows 3 2147483646` is one,
+  3 - i.
+
+Refusals
+  What the library refuses is answered with a line that begins
+      refused N at P: REASON
+  and goes on with what is known: the field that breaks the rule, the numbers
+  given and wanted, the file. P is an offset in the key where N is 1 to 13, the
+  count received for 21 and 22, a number's index (rows first) for 23, 0 for the
+  row and 1 for the column for 24, and 0 for 35.
+
+Exit status
+  0 accepted or same, 1 different, 2 refused, 3 wrong usage, a file that cannot
+  be read or output that cannot be written; of several answers the greatest.
+  Answers and refusals go to standard output, all else to standard error; of
+  several keys or pairs one that fails has a line on standard output, which
+  begins with `failed`. Where the reader of the output closes it early, morgana
+  ends with 3 and no message.
+
+Example
+  $ morgana compare old.key new.key --points 1
+  same
+  keys that differ would pass with probability at most 9.4e-10 (m = 2, 1 point)
+  rows 850563382
+  columns 317573359
+";

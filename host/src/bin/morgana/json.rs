@@ -1,0 +1,274 @@
+//! Answers as lines of JSON, one object a line (docs/JSON.md).
+
+use crate::outcome::{About, Answer, Evaluation, Files, Outcome, Refused, Source, Tried, Verdict};
+use crate::records::{Record, Untaken};
+use crate::show::{Entry, Line};
+use morgana::{Counts, Field, Point, Values};
+
+/// The lines of an answer.
+pub fn json(answer: &Answer) -> String {
+    let open = || Object::of(answer);
+    match &answer.outcome {
+        Outcome::Checked(length, counts) => checked(open().status("accepted"), *length, counts),
+        Outcome::Shown(lines) => shown(open, lines) + &open().status("accepted").line(),
+        Outcome::Evaluated(field, evaluation) => {
+            evaluated(open().status("accepted"), *field, evaluation)
+        }
+        Outcome::Celled(row, column, values) => {
+            let Values { a, b, c } = *values;
+            let numbers = [
+                ("row", *row),
+                ("column", *column),
+                ("a", a),
+                ("b", b),
+                ("c", c),
+            ];
+            open().status("accepted").numbers(&numbers).line()
+        }
+        Outcome::Compared(verdict, points) => compared(open(), verdict, points).line(),
+        Outcome::Refused(lines, refused) => {
+            shown(open, lines) + &refusal(open().status("refused"), refused)
+        }
+        Outcome::Failed(failure) => {
+            let message = failure.to_string();
+            open().status("failed").string("message", &message).line()
+        }
+    }
+}
+
+/// An object in the making: its text up to the last member.
+struct Object(String);
+
+impl Object {
+    /// An object with the command and the files of an answer.
+    fn of(answer: &Answer) -> Object {
+        let object = Object(String::new()).string("command", answer.command);
+        match &answer.files {
+            Files::One(file) => object.string("file", &file.text()),
+            Files::Two(old, new) => object.string("old", &old.text()).string("new", &new.text()),
+        }
+    }
+
+    /// The object with one more member, whose value is JSON.
+    fn value(mut self, name: &str, value: &str) -> Object {
+        self.0.push(if self.0.is_empty() { '{' } else { ',' });
+        self.0.push_str(&format!("\"{name}\":{value}"));
+        self
+    }
+
+    /// The object with a text.
+    fn string(self, name: &str, text: &str) -> Object {
+        self.value(name, &quoted(text))
+    }
+
+    /// The object with a number.
+    fn number(self, name: &str, number: impl ToString) -> Object {
+        self.value(name, &number.to_string())
+    }
+
+    /// The object with some numbers.
+    fn numbers(self, numbers: &[(&str, u32)]) -> Object {
+        let add = |object: Object, (name, number): &(&str, u32)| object.number(name, number);
+        numbers.iter().fold(self, add)
+    }
+
+    /// The object with a truth value.
+    fn truth(self, name: &str, truth: bool) -> Object {
+        self.value(name, if truth { "true" } else { "false" })
+    }
+
+    /// The object with its status.
+    fn status(self, status: &str) -> Object {
+        self.string("status", status)
+    }
+
+    /// The object as a line.
+    fn line(self) -> String {
+        self.0 + "}\n"
+    }
+}
+
+/// A text as a JSON string.
+fn quoted(text: &str) -> String {
+    let escaped = text.chars().map(|character| match character {
+        '"' => "\\\"".to_owned(),
+        '\\' => "\\\\".to_owned(),
+        control if control < ' ' => format!("\\u{:04x}", control as u32),
+        other => other.to_string(),
+    });
+    format!("\"{}\"", escaped.collect::<String>())
+}
+
+/// A list of JSON values.
+fn list(values: impl IntoIterator<Item = impl ToString>) -> String {
+    let values: Vec<_> = values.into_iter().map(|value| value.to_string()).collect();
+    format!("[{}]", values.join(","))
+}
+
+/// The line of an accepted key.
+fn checked(object: Object, length: usize, counts: &Counts) -> String {
+    object
+        .number("bytes", length)
+        .number("arrays", counts.arrays)
+        .number("cells", counts.cells)
+        .number("calls", counts.calls)
+        .number("rows", counts.rows)
+        .number("columns", counts.columns)
+        .line()
+}
+
+/// A line for each record.
+fn shown(open: impl Fn() -> Object, lines: &[Line]) -> String {
+    lines.iter().map(|line| record(open(), line)).collect()
+}
+
+/// The line of a record.
+fn record(object: Object, line: &Line) -> String {
+    let object = object.number("offset", line.at).truth("fault", line.fault);
+    let (kind, fields) = match line.entry {
+        Entry::Record(record) => (record.kind().name(), fields(record)),
+        Entry::Untaken(Untaken::Missing) => ("missing", vec![]),
+        Entry::Untaken(Untaken::Unknown(byte)) => ("unknown", vec![("byte", byte.into())]),
+        Entry::Untaken(Untaken::Cut(kind, left)) => {
+            let wanted = kind.length() as u32;
+            (kind.name(), vec![("wanted", wanted), ("left", left as u32)])
+        }
+        Entry::Behind(count) => ("more", vec![("left", count as u32)]),
+    };
+    let object = object.string("kind", kind);
+    let object = match line.array {
+        Some(array) => object.number("array", array),
+        None => object,
+    };
+    object.numbers(&fields).line()
+}
+
+/// The fields of a record with their names.
+fn fields(record: Record) -> Vec<(&'static str, u32)> {
+    match record {
+        Record::Head { rows, columns }
+        | Record::Sparse { rows, columns }
+        | Record::Recursive { rows, columns } => {
+            vec![("row_bits", rows.into()), ("column_bits", columns.into())]
+        }
+        Record::Cell {
+            row,
+            column,
+            a,
+            b,
+            c,
+        } => {
+            vec![
+                ("row", row),
+                ("column", column),
+                ("a", a),
+                ("b", b),
+                ("c", c),
+            ]
+        }
+        Record::Call { id, row, column } => vec![
+            ("id", id.into()),
+            ("row_position", row),
+            ("column_position", column),
+        ],
+        Record::End => vec![],
+    }
+}
+
+/// The line of an evaluation.
+fn evaluated(object: Object, field: Field, evaluation: &Evaluation) -> String {
+    let value = |numbers: &[u32]| match numbers {
+        [number] => number.to_string(),
+        _ => list(numbers),
+    };
+    let triple = |array: &Vec<u32>| {
+        let values = array.chunks_exact(field.numbers());
+        values.map(value).collect::<Vec<_>>()
+    };
+    let arrays = evaluation.arrays.iter().map(|array| list(triple(array)));
+    let object = with_point(object.string("field", field_name(field)), &evaluation.point)
+        .value("arrays", &list(arrays));
+    let last = evaluation.arrays.last().map(triple).unwrap_or_default();
+    let names = ["a", "b", "c"].into_iter();
+    names
+        .zip(last)
+        .fold(object, |object, (name, value)| object.value(name, &value))
+        .line()
+}
+
+/// The name of a field.
+fn field_name(field: Field) -> &'static str {
+    match field {
+        Field::Prime => "p",
+        Field::Quadratic => "p^2",
+    }
+}
+
+/// An object with a point's numbers.
+fn with_point(object: Object, point: &Point) -> Object {
+    let rows = object.value("rows", &list(&point.rows));
+    rows.value("columns", &list(&point.columns))
+}
+
+/// The object of a comparison.
+fn compared(object: Object, verdict: &Verdict, points: &[Point]) -> Object {
+    let (object, tried) = match verdict {
+        Verdict::Identical => {
+            let object = object.status("same").truth("certain", true);
+            return object.truth("identical", true);
+        }
+        Verdict::Same(tried) => {
+            let object = object.status("same").truth("certain", tried.m == 0);
+            (object.truth("identical", false), tried)
+        }
+        Verdict::Different(number, tried) => {
+            let object = object.status("different").truth("certain", true);
+            (object.number("point", number), tried)
+        }
+    };
+    let object = with_tried(object, verdict, tried);
+    if points.is_empty() {
+        return object;
+    }
+    let points = points.iter().map(|point| {
+        let object = with_point(Object(String::new()), point);
+        object.0 + "}"
+    });
+    object.value("points", &list(points))
+}
+
+/// An object with the points that were tried, and the bound on keys that differ where there is one.
+fn with_tried(object: Object, verdict: &Verdict, tried: &Tried) -> Object {
+    let object = object
+        .string("field", field_name(tried.field))
+        .number("m", tried.m)
+        .number("count", tried.count);
+    match &tried.source {
+        Source::File(file) => object.string("points_from", &file.text()),
+        Source::Drawn(bound) if matches!(verdict, Verdict::Same(_)) && !bound.is_zero() => {
+            object.number("bound", bound)
+        }
+        Source::Drawn(_) => object,
+    }
+}
+
+/// The line of a refusal.
+fn refusal(object: Object, refused: &Refused) -> String {
+    let object = object
+        .number("number", refused.refusal.number)
+        .number("place", refused.refusal.place)
+        .string("reason", refused.refusal.sentence());
+    let object = match &refused.detail {
+        Some(detail) => object.string("detail", detail),
+        None => object,
+    };
+    match &refused.about {
+        About::Old(_) => object.string("key", "old"),
+        About::New(_) => object.string("key", "new"),
+        About::Point(name, number) => object
+            .string("points_from", &name.text())
+            .number("point", number),
+        About::Key(_) | About::Both => object,
+    }
+    .line()
+}

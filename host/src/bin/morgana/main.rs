@@ -1,0 +1,141 @@
+//! morgana: checks, shows, evaluates and compares circuit keys in files.
+#![deny(unsafe_code)]
+
+mod arguments;
+mod closed;
+mod commands;
+mod compare;
+mod decimal;
+mod fault;
+mod files;
+mod help;
+mod json;
+mod outcome;
+mod output;
+mod pairs;
+mod points;
+mod progress;
+mod records;
+mod show;
+mod text;
+
+use arguments::{Command, Request};
+use compare::Manner;
+use files::Name;
+use outcome::{Failure, Files, Outcome, Status};
+use output::{fail, Output};
+use progress::Progress;
+use std::env;
+use std::process::ExitCode;
+
+fn main() -> ExitCode {
+    let status = match arguments::parse(env::args_os().skip(1)) {
+        Err(message) => fail(&Failure::Usage(message)),
+        Ok(request) => run(&request).unwrap_or_else(|failure| fail(&failure)),
+    };
+    ExitCode::from(status as u8)
+}
+
+/// Answers what is asked on standard output, and answers the exit status.
+fn run(request: &Request) -> Result<Status, Failure> {
+    let mut output = Output::open(request.json)?;
+    let one = |key: &Name| Files::One(key.clone());
+    match &request.command {
+        Command::Help => output.page(help::HELP),
+        Command::Version => output.page(help::VERSION),
+        Command::Check { keys } => match keys.as_slice() {
+            [key] => output.only("check", one(key), commands::check(key)),
+            _ => check_each(keys, &mut output),
+        },
+        Command::Show { key } => output.only("show", one(key), commands::show(key)),
+        Command::Evaluate { key, point, field } => {
+            match commands::evaluate(key, point.as_ref(), *field) {
+                Ok(outcomes) => evaluate_each(one(key), outcomes, &mut output),
+                Err(failure) => output.only("evaluate", one(key), Err(failure)),
+            }
+        }
+        Command::Cell { key, row, column } => {
+            output.only("cell", one(key), commands::cell(key, *row, *column))
+        }
+        Command::Compare { old, new, manner } => compare(old, new, manner, &mut output),
+        Command::ComparePairs { list, manner } => {
+            let pairs = pairs::of_list(list);
+            compare_each(one(list), pairs, manner, &mut output)
+        }
+    }
+}
+
+/// Checks one key after the other; what fails for one is said of it and the rest go on.
+fn check_each(keys: &[Name], output: &mut Output) -> Result<Status, Failure> {
+    let mut status = Status::Accepted;
+    for key in keys {
+        let files = Files::One(key.clone());
+        status = status.max(output.one_of_several("check", files, commands::check(key))?);
+    }
+    Ok(status)
+}
+
+/// Answers the values at one point after the other, up to one that is refused.
+fn evaluate_each(
+    files: Files,
+    outcomes: impl Iterator<Item = Outcome>,
+    output: &mut Output,
+) -> Result<Status, Failure> {
+    for outcome in outcomes {
+        match output.only("evaluate", files.clone(), Ok(outcome))? {
+            Status::Accepted => {}
+            status => return Ok(status),
+        }
+    }
+    Ok(Status::Accepted)
+}
+
+/// Compares two keys, or those of two folders.
+fn compare(
+    old: &Name,
+    new: &Name,
+    manner: &Manner,
+    output: &mut Output,
+) -> Result<Status, Failure> {
+    let files = Files::Two(old.clone(), new.clone());
+    let uneven = |folder, file| Failure::NoPair(format!("{folder} is a folder and {file} is none"));
+    match (old.folder(), new.folder()) {
+        (None, None) => {
+            let mut progress = Progress::begin();
+            let given = manner.given();
+            let outcome =
+                given.and_then(|given| compare::compare(old, new, manner, &given, &mut progress));
+            progress.clear();
+            output.only("compare", files, outcome)
+        }
+        (Some(old), Some(new)) => {
+            compare_each(files, pairs::of_folders(&old, &new), manner, output)
+        }
+        (Some(_), None) => output.only("compare", files, Err(uneven(old, new))),
+        (None, Some(_)) => output.only("compare", files, Err(uneven(new, old))),
+    }
+}
+
+/// Compares one pair after the other; what fails for one is said of it and the rest go on. The pairs are those of some
+/// folders or of a list.
+fn compare_each(
+    source: Files,
+    pairs: Result<Vec<(Name, Name)>, Failure>,
+    manner: &Manner,
+    output: &mut Output,
+) -> Result<Status, Failure> {
+    let (pairs, given) = match pairs.and_then(|pairs| Ok((pairs, manner.given()?))) {
+        Ok(read) => read,
+        Err(failure) => return output.only("compare", source, Err(failure)),
+    };
+    let mut status = Status::Accepted;
+    let mut progress = Progress::begin();
+    for ((old, new), number) in pairs.iter().zip(1..) {
+        progress.pair(number, pairs.len());
+        let outcome = compare::compare(old, new, manner, &given, &mut progress);
+        progress.clear();
+        let files = Files::Two(old.clone(), new.clone());
+        status = status.max(output.one_of_several("compare", files, outcome)?);
+    }
+    Ok(status)
+}

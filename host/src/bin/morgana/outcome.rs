@@ -1,0 +1,187 @@
+//! What the program answers, and how it ends.
+
+use crate::files::Name;
+use crate::show::Line;
+use morgana::{Counts, Field, Likelihood, Point, Refusal, Values};
+use std::fmt::{Display, Formatter};
+use std::io;
+
+/// What an answer says, as the exit status; of several answers the greatest counts.
+#[derive(Debug, Clone, Copy, PartialEq, Eq, PartialOrd, Ord)]
+pub enum Status {
+    /// The key is accepted, or the keys are the same.
+    Accepted = 0,
+    /// The keys are different.
+    Different = 1,
+    /// The library refuses.
+    Refused = 2,
+    /// Wrong usage, a file that cannot be read, or output that cannot be written.
+    Failed = 3,
+}
+
+/// An answer about a key or about two.
+#[derive(Debug)]
+pub struct Answer {
+    /// The command that asked.
+    pub command: &'static str,
+    /// What it asked about.
+    pub files: Files,
+    /// What there is to say.
+    pub outcome: Outcome,
+}
+
+/// The files that an answer is about.
+#[derive(Debug, Clone)]
+pub enum Files {
+    /// One key.
+    One(Name),
+    /// An old key and a new one.
+    Two(Name, Name),
+}
+
+/// What there is to say of some files.
+#[derive(Debug)]
+pub enum Outcome {
+    /// The key's length and counts.
+    Checked(usize, Counts),
+    /// The key's records.
+    Shown(Vec<Line>),
+    /// The key's values at a point.
+    Evaluated(Field, Evaluation),
+    /// The key's values at a row and a column.
+    Celled(u32, u32, Values),
+    /// Whether two keys are the same, and the points behind that.
+    Compared(Verdict, Vec<Point>),
+    /// The refusal of the library, and of `show` the records up to the one at fault.
+    Refused(Vec<Line>, Refused),
+    /// Something that kept the program from an answer.
+    Failed(Failure),
+}
+
+/// A key's values at a point.
+#[derive(Debug)]
+pub struct Evaluation {
+    /// The point.
+    pub point: Point,
+    /// Every array's numbers: those of A, then of B, then of C.
+    pub arrays: Vec<Vec<u32>>,
+}
+
+/// Whether two keys are the same.
+#[derive(Debug)]
+pub enum Verdict {
+    /// The files have the same bytes.
+    Identical,
+    /// The keys are the same at every point.
+    Same(Tried),
+    /// The keys are different at a point, the last that was tried: its number, counted from 1.
+    Different(u32, Tried),
+}
+
+/// The points at which keys were compared.
+#[derive(Debug)]
+pub struct Tried {
+    /// The field that they are from.
+    pub field: Field,
+    /// The coordinates of a point.
+    pub m: u32,
+    /// How many points there are.
+    pub count: u32,
+    /// The file that they are from, or how likely keys that differ pass at as many random ones.
+    pub source: Source,
+}
+
+/// Where points are from.
+#[derive(Debug)]
+pub enum Source {
+    /// They were drawn at random: the bound on the probability that keys that differ pass.
+    Drawn(Likelihood),
+    /// A file has them.
+    File(Name),
+}
+
+/// A refusal with what is known of it.
+#[derive(Debug)]
+pub struct Refused {
+    /// Its number and its place.
+    pub refusal: Refusal,
+    /// What breaks the rule, where the sentence does not say it.
+    pub detail: Option<String>,
+    /// What it is about.
+    pub about: About,
+}
+
+/// What a refusal is about.
+#[derive(Debug, Clone, PartialEq, Eq)]
+pub enum About {
+    /// The key of a command that takes one.
+    Key(Name),
+    /// The old key.
+    Old(Name),
+    /// The new key.
+    New(Name),
+    /// The point of a file with this number, counted from 1.
+    Point(Name, usize),
+    /// The two keys together.
+    Both,
+}
+
+/// Why the program ends without an answer.
+#[derive(Debug)]
+pub enum Failure {
+    /// The arguments ask for nothing that the program does.
+    Usage(String),
+    /// A file cannot be read.
+    File(Name, io::Error),
+    /// A line of a file is not what it has to be.
+    Line(Name, usize, String),
+    /// No random point can be drawn.
+    Random(io::Error),
+    /// There is no pair of files to compare.
+    NoPair(String),
+    /// Standard output cannot be written.
+    Output(io::Error),
+}
+
+impl Outcome {
+    /// The exit status.
+    pub fn status(&self) -> Status {
+        match self {
+            Outcome::Compared(Verdict::Different(..), _) => Status::Different,
+            Outcome::Refused(..) => Status::Refused,
+            Outcome::Failed(_) => Status::Failed,
+            _ => Status::Accepted,
+        }
+    }
+}
+
+impl Display for Refused {
+    fn fmt(&self, out: &mut Formatter) -> std::fmt::Result {
+        write!(out, "{}", self.refusal)?;
+        if let Some(detail) = &self.detail {
+            write!(out, "; {detail}")?;
+        }
+        match &self.about {
+            About::Key(name) => write!(out, "; key {name}"),
+            About::Old(name) => write!(out, "; old key {name}"),
+            About::New(name) => write!(out, "; new key {name}"),
+            About::Point(name, number) => write!(out, "; point {number} of {name}"),
+            About::Both => Ok(()),
+        }
+    }
+}
+
+impl Display for Failure {
+    fn fmt(&self, out: &mut Formatter) -> std::fmt::Result {
+        match self {
+            Failure::Usage(message) => {
+                write!(out, "{message}\nmorgana --help says how it is used")
+            }
+            Failure::File(name, error) => write!(out, "cannot read {name}: {error}"),
+            Failure::Line(name, line, message) => write!(out, "{name} line {line}: {message}"),
+            Failure::Random(error) => write!(out, "cannot draw a random point: {error}"),
+            Failure::NoPair(message) => write!(out, "{message}"),
+            Failure::Output(error) => write!(out, "cannot write to standard output: {error}"),
+        }
+    }
+}

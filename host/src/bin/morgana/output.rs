@@ -1,0 +1,97 @@
+//! Standard output, and what is said on standard error.
+
+use crate::closed;
+use crate::json;
+use crate::outcome::{Answer, Failure, Files, Outcome, Status};
+use crate::text;
+use std::io::{self, BufWriter, ErrorKind, Write};
+
+/// Standard output, for text or for lines of JSON.
+pub struct Output {
+    out: BufWriter<io::Stdout>,
+    json: bool,
+}
+
+impl Output {
+    /// Standard output, unless it was closed when the program began.
+    pub fn open(json: bool) -> Result<Output, Failure> {
+        if closed::output_is_closed() {
+            return Err(Failure::Output(io::Error::other("it is closed")));
+        }
+        let out = BufWriter::new(io::stdout());
+        Ok(Output { out, json })
+    }
+
+    /// Writes a page of text.
+    pub fn page(&mut self, text: &str) -> Result<Status, Failure> {
+        self.write(text)?;
+        Ok(Status::Accepted)
+    }
+
+    /// Writes the only answer of a run. A failure is for standard error, and with JSON an object too.
+    pub fn only(
+        &mut self,
+        command: &'static str,
+        files: Files,
+        outcome: Result<Outcome, Failure>,
+    ) -> Result<Status, Failure> {
+        match outcome {
+            Ok(outcome) => self.answer(command, files, outcome, false),
+            Err(failure) if self.json => {
+                fail(&failure);
+                self.answer(command, files, Outcome::Failed(failure), false)
+            }
+            Err(failure) => Err(failure),
+        }
+    }
+
+    /// Writes one of several answers, also where it is a failure.
+    pub fn one_of_several(
+        &mut self,
+        command: &'static str,
+        files: Files,
+        outcome: Result<Outcome, Failure>,
+    ) -> Result<Status, Failure> {
+        let outcome = outcome.unwrap_or_else(Outcome::Failed);
+        self.answer(command, files, outcome, true)
+    }
+
+    /// Writes an answer, and answers its status.
+    fn answer(
+        &mut self,
+        command: &'static str,
+        files: Files,
+        outcome: Outcome,
+        several: bool,
+    ) -> Result<Status, Failure> {
+        let status = outcome.status();
+        let answer = Answer {
+            command,
+            files,
+            outcome,
+        };
+        self.write(&match self.json {
+            true => json::json(&answer),
+            false => text::text(&answer, several),
+        })?;
+        Ok(status)
+    }
+
+    /// Writes text, and all that was written before it, to standard output.
+    fn write(&mut self, text: &str) -> Result<(), Failure> {
+        let written = self.out.write_all(text.as_bytes());
+        written
+            .and_then(|()| self.out.flush())
+            .map_err(Failure::Output)
+    }
+}
+
+/// Says on standard error what failed, but for a reader that has closed the output, and answers the exit status.
+pub fn fail(failure: &Failure) -> Status {
+    let closed = matches!(failure, Failure::Output(error) if error.kind() == ErrorKind::BrokenPipe);
+    if !closed {
+        // Nothing is left to do where standard error cannot be written either.
+        let _ = writeln!(io::stderr(), "morgana: {failure}");
+    }
+    Status::Failed
+}

@@ -1,0 +1,195 @@
+//! Answers as lines for people.
+
+use crate::outcome::{About, Answer, Evaluation, Files, Outcome, Source, Tried, Verdict};
+use crate::points;
+use crate::show::Line;
+use morgana::{Counts, Field, Point, Values};
+
+/// The lines of an answer; one of several is a line that names its files.
+pub fn text(answer: &Answer, several: bool) -> String {
+    let files = match (&answer.files, several) {
+        (_, false) => String::new(),
+        (Files::One(file), true) => format!("; {file}"),
+        (Files::Two(old, new), true) => format!(" {old} {new}"),
+    };
+    match &answer.outcome {
+        Outcome::Checked(length, counts) => format!("{}{files}\n", checked(*length, counts)),
+        Outcome::Shown(lines) => shown(lines),
+        Outcome::Evaluated(_, evaluation) => evaluated(evaluation),
+        Outcome::Celled(_, _, Values { a, b, c }) => format!("A {a} B {b} C {c}\n"),
+        Outcome::Compared(verdict, _) if several => {
+            format!("{}{files}; {}\n", word(verdict), in_short(verdict))
+        }
+        Outcome::Compared(verdict, used) => {
+            format!(
+                "{}\n{}\n{}",
+                word(verdict),
+                reason(verdict),
+                points_text(used)
+            )
+        }
+        // The refusal of a point names no key, so that of several pairs the line names the keys.
+        Outcome::Refused(lines, refused) => match refused.about {
+            About::Point(..) if several => format!("{refused}; keys{files}\n"),
+            _ => format!("{}{refused}\n", shown(lines)),
+        },
+        Outcome::Failed(failure) => match answer.files {
+            Files::One(_) => format!("failed; {failure}\n"),
+            Files::Two(..) => format!("failed{files}; {failure}\n"),
+        },
+    }
+}
+
+/// A line for each record.
+fn shown(lines: &[Line]) -> String {
+    lines.iter().map(Line::text).collect()
+}
+
+/// The line of an accepted key.
+fn checked(length: usize, counts: &Counts) -> String {
+    let Counts {
+        arrays,
+        cells,
+        calls,
+        rows,
+        columns,
+        ..
+    } = counts;
+    format!(
+        "key {length} bytes arrays {arrays} cells {cells} calls {calls} rows {rows} columns {columns}"
+    )
+}
+
+/// The lines of an evaluation: the point, each array's number and values, and the key's values.
+fn evaluated(evaluation: &Evaluation) -> String {
+    let mut text = points::text(&evaluation.point);
+    for (number, values) in evaluation.arrays.iter().enumerate() {
+        text.push_str(&format!("{number}{}\n", numbers(values)));
+    }
+    if let Some(last) = evaluation.arrays.last() {
+        let names = ["A", " B", " C"].into_iter();
+        let values = last.chunks_exact(last.len() / 3);
+        for (name, value) in names.zip(values) {
+            text.push_str(name);
+            text.push_str(&numbers(value));
+        }
+        text.push('\n');
+    }
+    text
+}
+
+/// Numbers, each behind a space.
+fn numbers(numbers: &[u32]) -> String {
+    numbers.iter().map(|number| format!(" {number}")).collect()
+}
+
+/// The lines of some points.
+fn points_text(points: &[Point]) -> String {
+    points.iter().map(points::text).collect()
+}
+
+/// The verdict in a word.
+fn word(verdict: &Verdict) -> &'static str {
+    match verdict {
+        Verdict::Identical | Verdict::Same(_) => "same",
+        Verdict::Different(..) => "different",
+    }
+}
+
+/// What the verdict rests on.
+fn reason(verdict: &Verdict) -> String {
+    match verdict {
+        Verdict::Identical => "the files are identical, so this is certain".to_owned(),
+        Verdict::Same(tried) if tried.m == 0 => {
+            "the matrices have one place, and it was compared, so this is certain".to_owned()
+        }
+        Verdict::Same(tried) => match &tried.source {
+            Source::Drawn(bound) => format!(
+                "keys that differ would pass with probability at most {bound} {}",
+                size(tried)
+            ),
+            Source::File(name) => format!(
+                "at the {} of {name}; no bound is given, since they were not drawn here",
+                points_count(tried.count)
+            ),
+        },
+        Verdict::Different(number, tried) => format!("at point {number} of {}", tried.count),
+    }
+}
+
+/// The same in few words, for one of several pairs.
+fn in_short(verdict: &Verdict) -> String {
+    match verdict {
+        Verdict::Identical => "certain, identical files".to_owned(),
+        Verdict::Same(tried) if tried.m == 0 => "certain, one place".to_owned(),
+        Verdict::Same(tried) => match &tried.source {
+            Source::Drawn(bound) => format!("bound {bound} {}", size(tried)),
+            Source::File(name) => format!("no bound, {} of {name}", points_count(tried.count)),
+        },
+        Verdict::Different(..) => reason(verdict),
+    }
+}
+
+/// What a bound goes by: the field where it is not that of p, the coordinates of a point and the number of points.
+fn size(tried: &Tried) -> String {
+    let field = match tried.field {
+        Field::Prime => "",
+        Field::Quadratic => "q = p², ",
+    };
+    let points = points_count(tried.count);
+    format!("({field}m = {}, {points})", tried.m)
+}
+
+/// So many points, in words.
+fn points_count(count: u32) -> String {
+    match count {
+        1 => "1 point".to_owned(),
+        _ => format!("{count} points"),
+    }
+}
+
+#[cfg(test)]
+mod tests {
+    use super::*;
+    use crate::files::Name;
+    use morgana::Likelihood;
+
+    /// An answer of compare with these points.
+    fn answer(verdict: Verdict, used: &[Point]) -> Answer {
+        let name = Name::from("f");
+        Answer {
+            command: "compare",
+            files: Files::Two(name.clone(), name),
+            outcome: Outcome::Compared(verdict, used.to_vec()),
+        }
+    }
+
+    #[test]
+    fn the_points_behind_every_verdict_can_be_read() {
+        let used = [3, 4].map(|number| Point {
+            rows: vec![number],
+            columns: vec![],
+        });
+        for field in [Field::Prime, Field::Quadratic] {
+            for m in [0, 1, 60] {
+                for (count, file) in [(1, false), (1, true), (2, false), (2, true)] {
+                    let tried = || Tried {
+                        field,
+                        m,
+                        count,
+                        source: match file {
+                            true => Source::File(Name::from("f")),
+                            false => Source::Drawn(Likelihood::new(field, m, count)),
+                        },
+                    };
+                    for verdict in [Verdict::Same(tried()), Verdict::Different(1, tried())] {
+                        let text = text(&answer(verdict, &used), false);
+                        assert_eq!(points::parse(text.as_bytes()), Ok(used.to_vec()), "{text}");
+                    }
+                }
+            }
+        }
+        let identical = text(&answer(Verdict::Identical, &used), false);
+        assert_eq!(points::parse(identical.as_bytes()), Ok(used.to_vec()));
+    }
+}

@@ -1,0 +1,14 @@
+//! Runs morgana on files of its own and wants what it prints and its exit status to be as given.
+
+mod comparisons;
+mod failures;
+mod json;
+mod kept;
+mod keys;
+mod listings;
+mod many;
+mod outputs;
+mod refusals;
+mod replays;
+mod support;
+mod values;

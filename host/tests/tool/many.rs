@@ -1,0 +1,201 @@
+//! Several keys at once: check of several files, compare of two folders and of a list of pairs.
+
+use crate::keys::{flat, sample, single};
+use crate::support::Folder;
+
+const BOUND: &str = "bound 8.1e-28 (m = 2, 3 points)";
+
+/// A key of flat's shape with another B.
+fn other() -> Vec<u8> {
+    [&flat()[..19], &[15], &flat()[20..]].concat()
+}
+
+#[test]
+fn check_goes_on_behind_a_fault() {
+    let folder = Folder::new(
+        "check-many",
+        &[("sample", &sample()), ("bad", b"\xff"), ("flat", &flat())],
+    );
+    let accepted = [
+        "key 53 bytes arrays 2 cells 1 calls 2 rows 1 columns 1; \"sample\"\n",
+        "key 28 bytes arrays 1 cells 1 calls 0 rows 1 columns 1; \"flat\"\n",
+    ];
+    let refused = "refused 3 at 0: unknown kind; kind ff, and kinds are 01 to 06; key \"bad\"\n";
+    folder
+        .run(&["check", "sample", "flat"])
+        .answers(0, &accepted.concat());
+    folder
+        .run(&["check", "bad", "sample", "flat"])
+        .answers(2, &(refused.to_owned() + &accepted.concat()));
+    let ran = folder.run(&["check", "sample", "absent", "bad", "flat"]);
+    let failed = "failed; cannot read \"absent\": No such file or directory (os error 2)\n";
+    ran.answers(3, &[accepted[0], failed, refused, accepted[1]].concat());
+    let ran = folder.run_on(&["check", "sample", "-"], &flat());
+    let input = "key 28 bytes arrays 1 cells 1 calls 0 rows 1 columns 1; standard input\n";
+    ran.answers(0, &[accepted[0], input].concat());
+}
+
+#[test]
+fn folders_are_compared_by_the_paths_in_them() {
+    let folder = Folder::new("folders", &[]);
+    for name in ["old", "new", "old/deep", "new/deep"] {
+        folder.folder(name);
+    }
+    for (name, old, new) in [
+        ("a", sample(), flat()),
+        ("b", sample(), sample()),
+        ("deep/c", flat(), sample()),
+    ] {
+        folder.write(format!("old/{name}"), &old);
+        folder.write(format!("new/{name}"), &new);
+    }
+    let same = [
+        format!("same \"old/a\" \"new/a\"; {BOUND}\n"),
+        "same \"old/b\" \"new/b\"; certain, identical files\n".to_owned(),
+        format!("same \"old/deep/c\" \"new/deep/c\"; {BOUND}\n"),
+    ];
+    folder
+        .run(&["compare", "old", "new"])
+        .answers(0, &same.concat());
+    folder.write("old/d", &flat());
+    folder.write("new/d", &other());
+    let different = "different \"old/d\" \"new/d\"; at point 1 of 3\n";
+    let wanted = [&same[0], &same[1], different, &same[2]].concat();
+    folder.run(&["compare", "old", "new"]).answers(1, &wanted);
+    folder.write("new/deep/bad", b"\xff");
+    folder.write("old/deep/bad", &sample());
+    let refused =
+        "refused 3 at 0: unknown kind; kind ff, and kinds are 01 to 06; new key \"new/deep/bad\"\n";
+    let wanted = [&same[0], &same[1], different, refused, &same[2]].concat();
+    folder.run(&["compare", "old/", "new"]).status(2);
+    folder.run(&["compare", "old", "new"]).answers(2, &wanted);
+    folder.write("new/only", &sample());
+    let failed = "failed \"old/only\" \"new/only\"; cannot read \"old/only\": No such file or directory (os error 2)\n";
+    let wanted = [&wanted, failed].concat();
+    folder.run(&["compare", "old", "new"]).answers(3, &wanted);
+}
+
+#[test]
+fn a_folder_goes_with_a_folder() {
+    let folder = Folder::new("uneven", &[("file", &sample())]);
+    folder.folder("folder");
+    folder.folder("empty");
+    for arguments in [["compare", "folder", "file"], ["compare", "file", "folder"]] {
+        folder
+            .run(&arguments)
+            .fails(&["\"folder\" is a folder and \"file\" is none"]);
+    }
+    folder
+        .run(&["compare", "folder", "empty"])
+        .fails(&["there is no file in \"folder\" or \"empty\""]);
+}
+
+#[test]
+fn a_list_has_a_pair_on_each_line() {
+    let folder = Folder::new(
+        "list",
+        &[
+            ("sample", &sample()),
+            ("flat key", &flat()),
+            ("single", &single(1)),
+        ],
+    );
+    let list = b"sample\tflat key\n\n  sample   sample  \r\nsingle sample\n";
+    let wanted = format!(
+        "same \"sample\" \"flat key\"; {BOUND}\n\
+         same \"sample\" \"sample\"; certain, identical files\n\
+         refused 35 at 0: shapes differ; old key \"single\" has row bits 0 and column bits 0, \
+         new key \"sample\" row bits 1 and column bits 1\n"
+    );
+    folder.write("list", list);
+    folder
+        .run(&["compare", "--pairs", "list"])
+        .answers(2, &wanted);
+    folder
+        .run_on(&["compare", "--pairs=-"], list)
+        .answers(2, &wanted);
+    for (list, words) in [
+        (
+            &b"sample\n"[..],
+            "\"list\" line 1: does not have two file names",
+        ),
+        (
+            b"a b\na b c\n",
+            "\"list\" line 2: does not have two file names",
+        ),
+        (
+            b"sample -\n",
+            "\"list\" line 1: standard input (-) is no file of a list",
+        ),
+        (b"\n", "there is no pair in \"list\""),
+    ] {
+        folder.write("list", list);
+        folder.run(&["compare", "--pairs", "list"]).fails(&[words]);
+    }
+}
+
+#[test]
+fn points_are_read_once_for_all_pairs() {
+    let folder = Folder::new("points-many", &[("sample", &sample()), ("flat", &flat())]);
+    folder.write("list", b"sample flat\nflat sample\n");
+    let point = b"rows 3\ncolumns 4\n";
+    folder
+        .run_on(&["compare", "--pairs", "list", "--point", "-"], point)
+        .answers(
+            0,
+            "same \"sample\" \"flat\"; no bound, 1 point of standard input\n\
+             same \"flat\" \"sample\"; no bound, 1 point of standard input\n",
+        );
+    folder
+        .run_on(&["compare", "--pairs", "list", "--point", "-"], b"")
+        .fails(&["standard input line 1: the line of rows is missing"]);
+}
+
+#[test]
+fn pairs_of_one_place_are_certain() {
+    let sum = [
+        &[1, 0, 0, 2, 0, 0][..],
+        &crate::keys::cell(0, 0, 1, 1, 1),
+        &crate::keys::cell(0, 0, 0, 1, 2),
+        &[6],
+    ];
+    let folder = Folder::new(
+        "one-many",
+        &[
+            ("once", &single(1)),
+            ("sum", &sum.concat()),
+            ("list", b"once sum\n"),
+        ],
+    );
+    let run = |options: &[&str]| folder.run(&[&["compare", "--pairs", "list"], options].concat());
+    run(&[]).answers(0, "same \"once\" \"sum\"; certain, one place\n");
+    run(&["--json", "--quiet"]).answers(
+        0,
+        "{\"command\":\"compare\",\"old\":\"once\",\"new\":\"sum\",\"status\":\"same\",\
+         \"certain\":true,\"identical\":false,\"field\":\"p\",\"m\":0,\"count\":1}\n",
+    );
+}
+
+#[test]
+fn only_regular_files_of_folders_are_read() {
+    let folder = Folder::new("odd", &[("key", &sample())]);
+    for name in ["old", "new", "deep"] {
+        folder.folder(name);
+    }
+    for name in ["old/a", "new/a", "deep/b"] {
+        folder.write(name, &sample());
+    }
+    folder.link("../key", "old/link");
+    folder.link("../key", "new/link");
+    folder.link("../deep", "old/deep");
+    folder.link("../deep", "new/deep");
+    folder.link("/dev/zero", "old/endless");
+    folder.link("/dev/zero", "new/endless");
+    let failed = |name: &str| {
+        format!("failed \"old/{name}\" \"new/{name}\"; cannot read \"old/{name}\": it is no regular file\n")
+    };
+    let same =
+        |name: &str| format!("same \"old/{name}\" \"new/{name}\"; certain, identical files\n");
+    let wanted = [same("a"), failed("deep"), failed("endless"), same("link")].concat();
+    folder.run(&["compare", "old", "new"]).answers(3, &wanted);
+}

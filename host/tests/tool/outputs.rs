@@ -1,0 +1,93 @@
+//! Output that cannot be written, and output that is closed.
+
+use crate::keys::{flat, longest, sample};
+use crate::support::{Folder, Ran};
+use std::fs::File;
+use std::os::fd::OwnedFd;
+use std::os::unix::net::UnixStream;
+use std::process::{Command, Stdio};
+
+#[test]
+fn output_that_cannot_be_written_is_said() {
+    let folder = Folder::new("full", &[("sample", &sample())]);
+    for arguments in [
+        &["--help"][..],
+        &["check", "sample"],
+        &["check", "sample", "sample"],
+        &["check", "sample", "--json"],
+        &["compare", "sample", "sample"],
+    ] {
+        let full = File::options()
+            .write(true)
+            .open("/dev/full")
+            .expect("/dev/full opens");
+        let ran = folder.program(arguments).stdout(full).output();
+        Ran::of(ran.expect("morgana runs")).fails(&["cannot write to standard output: "]);
+    }
+}
+
+#[test]
+fn a_closed_pipe_ends_the_program_quietly() {
+    let folder = Folder::new("pipe", &[("sample", &sample()), ("flat", &flat())]);
+    folder.write("longest", &longest());
+    for arguments in [
+        &["show", "longest"][..],
+        &["check", "sample"],
+        &["compare", "sample", "flat"],
+        &["compare", "sample", "flat", "--json"],
+        &["--help"],
+    ] {
+        let mut program = folder.program(arguments);
+        let (reader, writer) = UnixStream::pair().expect("a pair of sockets");
+        drop(reader);
+        let output = program
+            .stdout(OwnedFd::from(writer))
+            .stderr(Stdio::piped())
+            .output();
+        Ran::of(output.expect("morgana runs")).answers(3, "");
+    }
+}
+
+/// Runs the program in a shell, with these arguments and redirections.
+fn in_shell(folder: &Folder, line: &str) -> Ran {
+    let program = folder.program::<&str>(&[]);
+    let mut shell = Command::new("sh");
+    shell.args(["-c", &format!("exec \"$0\" {line}")]);
+    shell.arg(program.get_program());
+    let path = program.get_current_dir().expect("a folder");
+    Ran::of(shell.current_dir(path).output().expect("sh runs"))
+}
+
+#[test]
+fn a_closed_output_is_said() {
+    let folder = Folder::new("closed", &[("sample", &sample())]);
+    for (redirection, status) in [
+        (">&-", 3),
+        ("1</dev/null", 3),
+        (">/dev/null", 0),
+        ("1<>/dev/null", 0),
+    ] {
+        let ran = in_shell(&folder, &format!("check sample {redirection}"));
+        match status {
+            0 => ran.answers(0, ""),
+            _ => ran.fails(&["cannot write to standard output: it is closed"]),
+        }
+    }
+}
+
+#[test]
+fn a_closed_input_is_no_empty_key() {
+    let folder = Folder::new("closed-input", &[("sample", &sample())]);
+    for (redirection, status) in [
+        ("<&-", 3),
+        ("0>/dev/null", 3),
+        ("</dev/null", 2),
+        ("<sample", 0),
+    ] {
+        let ran = in_shell(&folder, &format!("check - {redirection}"));
+        match status {
+            3 => ran.fails(&["cannot read standard input: it is closed"]),
+            _ => ran.status(status),
+        }
+    }
+}

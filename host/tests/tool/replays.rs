@@ -1,0 +1,132 @@
+//! Points that were printed, used again.
+
+use crate::keys::{flat, sample, single, wide, wide_in_two};
+use crate::support::Folder;
+
+#[test]
+fn what_evaluate_printed_can_be_used_again() {
+    let folder = Folder::new("again", &[("sample", &sample()), ("wide", &wide(1))]);
+    for (key, coordinates) in [("sample", 2), ("wide", 60)] {
+        for (numbers, option) in [(1, &[][..]), (2, &["--quadratic"])] {
+            let run = |arguments: &[&str]| folder.run(&[&["evaluate"], arguments, option].concat());
+            let first = run(&[key, "--random"]);
+            let point: Vec<_> = first.out.lines().take(2).collect();
+            let words = point.iter().flat_map(|line| line.split(' ').skip(1));
+            assert_eq!(words.count(), numbers * coordinates, "{}", first.out);
+            for text in [point.join("\n"), first.out.clone()] {
+                folder.write("point", text.as_bytes());
+                run(&["--point", "point", key]).answers(0, &first.out);
+            }
+            folder.write("point", run(&[key, "--json"]).out.as_bytes());
+            let again = run(&[key, "--json", "--point=point"]);
+            folder.write("again", again.out.as_bytes());
+            run(&[key, "--json", "--point=again"]).answers(0, &again.out);
+            assert_ne!(run(&[key]), first);
+        }
+    }
+}
+
+/// The lines of the points in compare's output: those behind the verdict and its reason.
+fn points(out: &str) -> Vec<&str> {
+    out.lines().skip(2).collect()
+}
+
+#[test]
+fn what_compare_printed_can_be_used_again() {
+    let folder = Folder::new(
+        "compared-again",
+        &[("sample", &sample()), ("flat", &flat())],
+    );
+    folder.write("wide", &wide(1));
+    folder.write("two", &wide_in_two());
+    for keys in [["sample", "flat"], ["wide", "two"]] {
+        for field in [&[][..], &["--quadratic"]] {
+            let run =
+                |options: &[&str]| folder.run(&[&["compare"], &keys[..], field, options].concat());
+            let first = run(&["--points", "7"]);
+            folder.write("out", first.out.as_bytes());
+            let second = run(&["--point", "out"]);
+            second.status(0);
+            let reason =
+                "at the 7 points of \"out\"; no bound is given, since they were not drawn here";
+            assert!(
+                second.out.starts_with(&format!("same\n{reason}\n")),
+                "{}",
+                second.out
+            );
+            assert_eq!(points(&second.out), points(&first.out));
+            assert_eq!(points(&first.out).len(), 14);
+            let json = run(&["--json", "--point", "out"]);
+            folder.write("out", json.out.as_bytes());
+            run(&["--point", "out"]).answers(0, &second.out);
+        }
+    }
+}
+
+#[test]
+fn a_point_that_shows_a_difference_shows_it_again() {
+    let other = [&flat()[..19], &[15], &flat()[20..]].concat();
+    let folder = Folder::new("differs-again", &[("flat", &flat()), ("other", &other)]);
+    for option in [&[][..], &["--quadratic"]] {
+        let run = |arguments: &[&str]| {
+            folder.run(&[&["compare", "flat", "other"], arguments, option].concat())
+        };
+        let first = run(&[]);
+        assert_eq!(first.status, Some(1));
+        folder.write("out", first.out.as_bytes());
+        let (_, points) = first.out.split_once("\nrows").expect("a point");
+        let wanted = format!("different\nat point 1 of 1\nrows{points}");
+        run(&["--point", "out"]).answers(1, &wanted);
+    }
+}
+
+#[test]
+fn points_of_a_file_have_no_bound_but_may_be_certain() {
+    let sum = [
+        &[1, 0, 0, 2, 0, 0][..],
+        &crate::keys::cell(0, 0, 1, 1, 1),
+        &crate::keys::cell(0, 0, 0, 1, 2),
+        &[6],
+    ];
+    let folder = Folder::new(
+        "certain-again",
+        &[("once", &single(1)), ("sum", &sum.concat())],
+    );
+    folder.write("point", b"rows\ncolumns\n");
+    folder
+        .run(&["compare", "once", "sum", "--point=point", "--quiet"])
+        .answers(
+            0,
+            "same\nthe matrices have one place, and it was compared, so this is certain\n",
+        );
+}
+
+#[test]
+fn the_points_before_one_that_differs_are_left_out() {
+    let other = [&flat()[..19], &[15], &flat()[20..]].concat();
+    let folder = Folder::new("agrees-first", &[("flat", &flat()), ("other", &other)]);
+    // The keys differ at row 0, column 1 alone, which weighs (1 - r)·c: nothing where r is 1.
+    folder.write(
+        "points",
+        b"rows 1\ncolumns 5\nrows 3\ncolumns 4\nrows 5\ncolumns 6\n",
+    );
+    let run = |options: &[&str]| {
+        let keys = ["compare", "flat", "other", "--point", "points"];
+        folder.run(&[&keys[..], options].concat())
+    };
+    run(&[]).answers(1, "different\nat point 2 of 3\nrows 3\ncolumns 4\n");
+    run(&["--quiet"]).answers(1, "different\nat point 2 of 3\n");
+    let json = run(&["--json"]);
+    let wanted = "\"point\":2,\"field\":\"p\",\"m\":2,\"count\":3,\"points_from\":\"points\",\
+        \"points\":[{\"rows\":[3],\"columns\":[4]}]}\n";
+    assert!(json.out.ends_with(wanted), "{}", json.out);
+    folder.write("points", b"rows 1\ncolumns 5\n");
+    let ran = run(&[]);
+    ran.status(0);
+    assert!(
+        ran.out
+            .starts_with("same\nat the 1 point of \"points\"; no bound"),
+        "{}",
+        ran.out
+    );
+}

@@ -1,0 +1,101 @@
+//! The commands that answer values of a key: evaluate and cell.
+
+use crate::keys::sample;
+use crate::support::Folder;
+
+#[test]
+fn evaluate_prints_the_point_and_every_array() {
+    let folder = Folder::new(
+        "evaluate",
+        &[("sample", &sample()), ("point", b"rows 3\ncolumns 4\n")],
+    );
+    let wanted =
+        "rows 3\ncolumns 4\n0 20 28 0\n1 2147483567 2147483535 0\nA 2147483567 B 2147483535 C 0\n";
+    folder
+        .run(&["evaluate", "sample", "--point", "point"])
+        .answers(0, wanted);
+    folder.write("twice", b"rows 3\ncolumns 4\n\nrows 3\ncolumns 4\n");
+    folder
+        .run(&["evaluate", "sample", "--point=twice"])
+        .answers(0, &wanted.repeat(2));
+}
+
+#[test]
+fn evaluate_prints_both_parts() {
+    let folder = Folder::new(
+        "quadratic",
+        &[
+            ("sample", &sample()),
+            ("point", b"rows 0 1\ncolumns 2147483646 2147483646\n"),
+            ("old", b"rows 3 0\ncolumns 4 0\n"),
+        ],
+    );
+    for (point, wanted) in [
+        (
+            "point",
+            "rows 0 1\ncolumns 2147483646 2147483646\n\
+             0 2147483642 2147483642 2147483640 2147483640 0 0\n\
+             1 2147483627 0 2147483619 0 0 0\n\
+             A 2147483627 0 B 2147483619 0 C 0 0\n",
+        ),
+        (
+            "old",
+            "rows 3 0\ncolumns 4 0\n0 20 0 28 0 0 0\n1 2147483567 0 2147483535 0 0 0\n\
+             A 2147483567 0 B 2147483535 0 C 0 0\n",
+        ),
+    ] {
+        folder
+            .run(&["evaluate", "sample", "--quadratic", "--point", point])
+            .answers(0, wanted);
+    }
+}
+
+#[test]
+fn cell_prints_the_values() {
+    let folder = Folder::new("cell", &[("sample", &sample())]);
+    for (row, column, status, wanted) in [
+        ("0", "1", 0, "A 10 B 14 C 0\n"),
+        ("1", "1", 0, "A 0 B 0 C 0\n"),
+        (
+            "2",
+            "9",
+            2,
+            "refused 24 at 0: row outside the last array; row 2 given, and rows are 0 to 1; key \"sample\"\n",
+        ),
+        (
+            "1",
+            "4294967295",
+            2,
+            "refused 24 at 1: column outside the last array; column 4294967295 given, and columns are 0 to 1; key \"sample\"\n",
+        ),
+    ] {
+        folder
+            .run(&["cell", "sample", row, column])
+            .answers(status, wanted);
+    }
+}
+
+#[test]
+fn a_key_may_come_from_standard_input() {
+    let folder = Folder::new("input", &[("sample", &sample())]);
+    for arguments in [
+        &["check", "-"][..],
+        &["show", "-"],
+        &["cell", "-", "0", "1"],
+    ] {
+        let named: Vec<_> = arguments
+            .iter()
+            .map(|word| if *word == "-" { "sample" } else { word })
+            .collect();
+        let ran = folder.run_on(arguments, &sample());
+        assert_eq!(ran.status, Some(0));
+        assert_eq!(ran, folder.run(&named));
+    }
+    let ran = folder.run_on(&["check", "-"], b"");
+    ran.answers(
+        2,
+        "refused 2 at 0: record missing or cut off; the key has 0 bytes and no end; key standard input\n",
+    );
+    let ran = folder.run_on(&["evaluate", "sample", "--point=-"], b"rows 0\ncolumns 1\n");
+    assert!(ran.out.ends_with("\nA 10 B 14 C 0\n"), "{}", ran.out);
+}

@@ -1,0 +1,454 @@
+"""Morgana circuit keys: checked, evaluated at a point, asked for single cells,
+and compared.
+
+The module calls the proved library libmorgana.so by ctypes. Its calls are
+those of morgana.h. A key is bytes, in any object that has the buffer protocol
+(bytes, bytearray, memoryview, mmap). This one opens a sparse array with one
+cell, and a recursive array that calls it twice:
+
+>>> import morgana
+>>> old = bytes.fromhex(
+...     "01 0101"
+...     "02 0001"
+...     "04 00000000 01000000 05000000 07000000 00000000"
+...     "03 0101"
+...     "05 0000 00000000 00000000"
+...     "05 0000 00000000 00000000"
+...     "06")
+>>> morgana.check(old)
+Counts(arrays=2, cells=1, calls=2, rows=1, columns=1)
+
+Points. It has one row bit and one column bit, so that a point is one row and
+one column coordinate below p. Coordinates, rows and columns are integers of
+any type that operator.index takes, as those of Sage and numpy; a negative one
+raises ValueError, and what is no integer raises TypeError.
+
+>>> morgana.evaluate(old, [3], [4])
+Values(a=2147483567, b=2147483535, c=0)
+>>> morgana.cell(old, 0, 1)
+Values(a=10, b=14, c=0)
+
+For the calls whose names end in _quadratic a coordinate is an element u + v*i
+of the field of p*p elements, where i*i is -1: two numbers, u first. A random
+point tells keys that differ apart, but for a small likelihood:
+
+>>> new = bytes.fromhex(
+...     "010101 020101 04 00000000 01000000 0a000000 0e000000 00000000 06")
+>>> rows, columns = morgana.random_point(1, 1, quadratic=True)
+>>> morgana.compare_quadratic(old, new, rows, columns)
+Compared(same=True)
+>>> float(morgana.likelihood(2, quadratic=True)) < 5e-19
+True
+
+Sheets. A call works on a sheet of 32-bit numbers and leaves every array's
+numbers there. Where none is given, the module lends its own. A caller's sheet
+is a writable, contiguous buffer of 32-bit unsigned items (array.array("I"),
+numpy uint32, a ctypes array, a cast memoryview); any other raises TypeError.
+
+>>> import array
+>>> sheet = array.array("I", [0] * 6)
+>>> values = morgana.evaluate(old, [3], [4], sheet)
+>>> list(sheet)
+[20, 28, 0, 2147483567, 2147483535, 0]
+
+Refusals. What the library refuses raises Refused, and leaves the sheet:
+
+>>> morgana.check(old[:40])
+Traceback (most recent call last):
+    ...
+morgana.Refused: refused 2 at 30: record missing or cut off
+
+Threads. Other threads run during a call. Keys and points are copied before
+it; a caller's sheet must not be shared between simultaneous calls.
+
+The library is loaded on import: the one whose path the environment variable
+MORGANA_LIBRARY names, else the one in FOLDER, which `make install` writes into
+the installed module, else the one that the system's loader finds. ImportError
+is raised where there is none, or one of another major or minor version.
+"""
+
+import ctypes
+import dataclasses
+import enum
+import fractions
+import operator
+import os
+import secrets
+import typing
+
+__all__ = [
+    "check", "evaluate", "cell", "compare", "evaluate_quadratic", "compare_quadratic", "version",
+    "random_point", "likelihood", "Counts", "Values", "Quadratic", "Compared", "Refused", "Number",
+    "P", "KEY_LIMIT", "MOST_ARRAYS", "MOST_BITS", "SHEET", "SHEET_QUADRATIC", "FOLDER",
+]
+
+__version__ = "0.2.0"
+
+# The folder of the installed library; empty in a module that is not installed.
+FOLDER = ""
+
+# The prime p, the most bytes of a key, arrays of a key and bits of an axis, and the places of a
+# sheet that is long enough for every key, over p and over p*p.
+P = 2147483647
+KEY_LIMIT = 65536
+MOST_ARRAYS = 1024
+MOST_BITS = 30
+SHEET = 3 * MOST_ARRAYS
+SHEET_QUADRATIC = 6 * MOST_ARRAYS
+
+# Versions that differ in the patch alone have one interface, and one name for the loader.
+_INTERFACE = __version__.rpartition(".")[0]
+_SONAME = f"libmorgana.so.{_INTERFACE}"
+_MOST_POINTS = 1000
+_TOP = 2**32 - 1
+
+
+class Number(enum.IntEnum):
+    """The numbers of refusals that the calls can give, each with its sentence."""
+
+    KEY_TOO_LONG = 1, "key over 65,536 bytes"
+    RECORD_INCOMPLETE = 2, "record missing or cut off"
+    KIND_UNKNOWN = 3, "unknown kind"
+    RECORD_MISPLACED = 4, "record not allowed at this point, or end before any array"
+    BITS_TOO_MANY = 5, "head bits over 30, or array bits over the head's"
+    ARRAYS_TOO_MANY = 6, "a 1,025th array"
+    CELL_OUTSIDE = 7, "cell address outside its array"
+    VALUE_TOO_GREAT = 8, "cell value p or more"
+    CALLED_NOT_EARLIER = 9, "called id not earlier"
+    CALLED_TOO_LARGE = 10, "called array larger in rows or columns"
+    POSITION_TOO_GREAT = 11, "call position too great"
+    LAST_SHAPE_WRONG = 12, "last array not of the head's shape"
+    BYTES_AFTER_END = 13, "bytes after the end"
+    ROW_COUNT_WRONG = 21, "row count not n, or not 2n over p²"
+    COLUMN_COUNT_WRONG = 22, "column count not n', or not 2n' over p²"
+    COORDINATE_TOO_GREAT = 23, "coordinate p or more"
+    ADDRESS_OUTSIDE = 24, "row outside the last array"  # Place 1: "column ...".
+    SHEET_TOO_SHORT = 31, "sheet below 3·arrays, or 6·arrays over p²"
+    SHAPES_DIFFER = 35, "shapes differ"
+
+    def __new__(cls, number, sentence):
+        member = int.__new__(cls, number)
+        member._value_, member.sentence = number, sentence
+        return member
+
+
+class Refused(Exception):
+    """A call is refused.
+
+    number    the condition that was met, a Number
+    place     where: for 1 to 13 an offset in the key; for 21 and 22 the count
+              of numbers received; for 23 the number's index, rows first; for
+              24 0 for the row and 1 for the column; for 31 the length needed;
+              for 35 0
+    key       the key that a refused comparison names, 1 or 2, else None
+    sentence  the condition in words
+    """
+
+    def __init__(self, number, place, key=None):
+        super().__init__(number, place, key)
+        self.number = Number(number)
+        self.place = place
+        self.key = key
+
+    @property
+    def sentence(self):
+        """The condition that the number stands for."""
+        if self.number == Number.ADDRESS_OUTSIDE and self.place != 0:
+            return "column outside the last array"
+        return self.number.sentence
+
+    def __str__(self):
+        named = {1: "; first key", 2: "; second key"}.get(self.key, "")
+        return f"refused {self.number:d} at {self.place}: {self.sentence}{named}"
+
+
+# Answers are made by keyword alone, as later versions may add fields to them.
+_answer = dataclasses.dataclass(frozen=True, kw_only=True)
+
+
+@_answer
+class Counts:
+    """An accepted key: how many arrays, cells and calls it has, and the row
+    bits n and the column bits n' of its head.
+    """
+
+    arrays: int
+    cells: int
+    calls: int
+    rows: int
+    columns: int
+
+
+class Quadratic(typing.NamedTuple):
+    """An element u + v*i of the field of p*p elements, where i*i is -1."""
+
+    u: int
+    v: int
+
+
+@_answer
+class Values:
+    """A, B and C of a key's last array: numbers below p, or over p*p a
+    Quadratic each.
+    """
+
+    a: int | Quadratic
+    b: int | Quadratic
+    c: int | Quadratic
+
+
+@_answer
+class Compared:
+    """What is found of two keys at a point. It has no truth value of its own:
+    `same` is the field to ask.
+    """
+
+    same: bool
+
+    def __bool__(self):
+        raise TypeError("Compared has no truth value: use .same")
+
+
+def _reply(name, *fields):
+    """The structure that a call answers: number, place, and then these 32-bit fields."""
+    types = [("number", ctypes.c_uint32), ("place", ctypes.c_uint64)]
+    types += [(field, ctypes.c_uint32) for field in fields]
+    return type(name, (ctypes.Structure,), {"_fields_": types})
+
+
+_CheckReply = _reply("_CheckReply", "arrays", "cells", "calls", "rows", "columns")
+_EvaluateReply = _reply("_EvaluateReply", "a", "b", "c")
+_QuadraticReply = _reply("_QuadraticReply", "a_u", "a_v", "b_u", "b_v", "c_u", "c_v")
+_CompareReply = _reply("_CompareReply", "key", "same")
+
+_KEY = (ctypes.c_char_p, ctypes.c_size_t)
+_PLACE = (ctypes.c_uint32, ctypes.c_uint32)
+_NUMBERS = (ctypes.POINTER(ctypes.c_uint32), ctypes.c_size_t)
+
+# The functions of the library: what each answers, and what it takes.
+_FUNCTIONS = {
+    "morgana_version": (ctypes.c_uint32, ()),
+    "morgana_check": (_CheckReply, _KEY),
+    "morgana_evaluate": (_EvaluateReply, _KEY + 3 * _NUMBERS),
+    "morgana_cell": (_EvaluateReply, _KEY + _PLACE + _NUMBERS),
+    "morgana_compare": (_CompareReply, 2 * _KEY + 3 * _NUMBERS),
+    "morgana_evaluate_quadratic": (_QuadraticReply, _KEY + 3 * _NUMBERS),
+    "morgana_compare_quadratic": (_CompareReply, 2 * _KEY + 3 * _NUMBERS),
+}
+
+
+def _chosen():
+    """Which library is loaded: its path, or its name alone for the system's loader."""
+    named = os.environ.get("MORGANA_LIBRARY")
+    return os.path.abspath(named) if named else os.path.join(FOLDER, _SONAME)
+
+
+def _version_text(number):
+    """The version that one number stands for, as 0.2.0."""
+    return f"{number // 1_000_000}.{number // 1_000 % 1_000}.{number % 1_000}"
+
+
+def _loaded():
+    """The library, of this module's interface, with its functions declared."""
+    path = _chosen()
+    try:
+        library = ctypes.CDLL(path)
+        found = _version_text(library.morgana_version())
+        if found.rpartition(".")[0] != _INTERFACE:
+            raise ImportError(f"morgana.py is version {__version__}, but {path} is version {found}")
+        for name, (answer, arguments) in _FUNCTIONS.items():
+            function = getattr(library, name)
+            function.restype, function.argtypes = answer, arguments
+    except (OSError, AttributeError) as error:
+        tried = f"no Morgana library: tried {path} ({error}); MORGANA_LIBRARY can name another"
+        raise ImportError(tried) from None
+    return library
+
+
+_library = _loaded()
+
+
+def _bytes(key):
+    """A key's bytes and their number, copied."""
+    with memoryview(key) as view:
+        # A longer key is refused with 1 whatever stands in it, so that zeros serve for it.
+        data = bytes(KEY_LIMIT + 1) if view.nbytes > KEY_LIMIT else view.tobytes()
+    return data, len(data)
+
+
+def _number(name, number):
+    """A number as the library takes it, in 32 bits."""
+    number = operator.index(number)
+    if number < 0:
+        raise ValueError(f"{name}: negative number")
+    # As a coordinate, a row or a column every number from p on is refused alike, with 23 or 24
+    # at the same place, so that the greatest number of 32 bits serves for all above it.
+    return min(number, _TOP)
+
+
+def _numbers(name, numbers):
+    """Numbers as the library takes them, and how many they are."""
+    listed = [_number(name, number) for number in numbers]
+    return (ctypes.c_uint32 * len(listed))(*listed), len(listed)
+
+
+def _serves(view):
+    """Whether a buffer is a sheet: 32-bit unsigned items in the order of this machine's bytes,
+    writable and without gaps.
+    """
+    unsigned = view.itemsize == 4 and view.format.lstrip("@=<") in ("I", "L")
+    return unsigned and view.c_contiguous and not view.readonly
+
+
+def _lent(sheet, places):
+    """A sheet as the library takes it, and its length: the caller's, or one of so many places."""
+    if sheet is None:
+        return (ctypes.c_uint32 * places)(), places
+    with memoryview(sheet) as view:
+        if not _serves(view):
+            raise TypeError("sheet: no writable, contiguous buffer of 32-bit unsigned items")
+        length = view.nbytes // 4
+    if length == 0:
+        return None, 0
+    lent = (ctypes.c_uint32 * length).from_buffer(sheet)
+    if ctypes.addressof(lent) % ctypes.alignment(lent):
+        raise TypeError("sheet: not aligned as 32-bit items are")
+    return lent, length
+
+
+def _at_point(function, keys, rows, columns, sheet, places):
+    """The reply of a function to keys, a point and a sheet."""
+    # Nothing here outlives the call, so that a refusal that is kept holds no lent sheet.
+    bytes_of_keys = [argument for key in keys for argument in _bytes(key)]
+    point = *_numbers("rows", rows), *_numbers("columns", columns)
+    return function(*bytes_of_keys, *point, *_lent(sheet, places))
+
+
+def _accepted(reply):
+    """A reply that refuses nothing; any other raises Refused."""
+    if reply.number:
+        raise Refused(reply.number, reply.place, getattr(reply, "key", 0) or None)
+    return reply
+
+
+def version():
+    """The library's version as one number: 1,000,000 for each major, 1,000 for
+    each minor and 1 for each patch version.
+    """
+    return _library.morgana_version()
+
+
+def check(key):
+    """Answers the Counts of an accepted key.
+
+    Refuses with 1; then record by record with 2 for no byte, 3, 2 for a cut
+    body, 4, 6, 5, 7 to 12 by number; then with 13.
+    """
+    reply = _accepted(_library.morgana_check(*_bytes(key)))
+    names = "arrays", "cells", "calls", "rows", "columns"
+    return Counts(**{name: getattr(reply, name) for name in names})
+
+
+def evaluate(key, rows, columns, sheet=None):
+    """Answers the Values of a key at a point of n row and n' column
+    coordinates. The sheet then has array i's A, B and C from place 3i on, and
+    its places behind the last array's are as they were.
+
+    Refuses as check does; then with 21, 22, 23; then with 31 for a sheet of
+    fewer than 3 places an array.
+    """
+    function = _library.morgana_evaluate
+    reply = _accepted(_at_point(function, [key], rows, columns, sheet, SHEET))
+    return Values(a=reply.a, b=reply.b, c=reply.c)
+
+
+def cell(key, row, column, sheet=None):
+    """Answers the Values of a key at one row and column of its dense matrices.
+    The sheet is then as after evaluate at the point whose coordinates are the
+    bits of row and column, lowest first.
+
+    Refuses as check does; then with 24; then with 31 as evaluate does.
+    """
+    place = _number("row", row), _number("column", column)
+    reply = _accepted(_library.morgana_cell(*_bytes(key), *place, *_lent(sheet, SHEET)))
+    return Values(a=reply.a, b=reply.b, c=reply.c)
+
+
+def compare(first, second, rows, columns, sheet=None):
+    """Answers whether evaluate gives the same Values for two keys at a point,
+    as Compared. The sheet is then as after evaluating the first key and then
+    the second.
+
+    Refuses as check does for the first key, then for the second, and names the
+    key; then with 35, 21, 22, 23; then with 31 for the key with more arrays.
+    """
+    function = _library.morgana_compare
+    reply = _accepted(_at_point(function, [first, second], rows, columns, sheet, SHEET))
+    return Compared(same=reply.same == 1)
+
+
+def evaluate_quadratic(key, rows, columns, sheet=None):
+    """Answers the Values of a key, each a Quadratic, at a point over p*p:
+    2n numbers for the rows and 2n' for the columns, u before v. The sheet then
+    has array i's six numbers from place 6i on, u and v of A, of B and of C.
+
+    Refuses as evaluate does, with counts and places of numbers; 31 is for a
+    sheet of fewer than 6 places an array.
+    """
+    function = _library.morgana_evaluate_quadratic
+    reply = _accepted(_at_point(function, [key], rows, columns, sheet, SHEET_QUADRATIC))
+    return Values(
+        a=Quadratic(reply.a_u, reply.a_v),
+        b=Quadratic(reply.b_u, reply.b_v),
+        c=Quadratic(reply.c_u, reply.c_v),
+    )
+
+
+def compare_quadratic(first, second, rows, columns, sheet=None):
+    """Answers whether evaluate_quadratic gives the same Values for two keys at
+    a point over p*p, as Compared. The sheet is then as after evaluating the
+    first key and then the second there.
+
+    Refuses as compare does, with counts and places as evaluate_quadratic.
+    """
+    function = _library.morgana_compare_quadratic
+    reply = _accepted(_at_point(function, [first, second], rows, columns, sheet, SHEET_QUADRATIC))
+    return Compared(same=reply.same == 1)
+
+
+def _between(name, number, least, most):
+    """The number, where it is in its range; any other raises ValueError."""
+    number = operator.index(number)
+    if not least <= number <= most:
+        raise ValueError(f"{name}: not from {least} to {most}")
+    return number
+
+
+def random_point(rows, columns, quadratic=False):
+    """Answers row and column coordinates, two lists of numbers, for a key with
+    these row bits n and column bits n', as check answers them. Each point is
+    as likely as any other; the numbers come from the system's secure source.
+
+    Raises ValueError for bits that are negative or over 30.
+    """
+    bits = _between("rows", rows, 0, MOST_BITS), _between("columns", columns, 0, MOST_BITS)
+    size = 2 if quadratic else 1
+    return tuple([secrets.randbelow(P) for _ in range(size * count)] for count in bits)
+
+
+def likelihood(m, points=1, quadratic=False):
+    """Answers, as an exact Fraction, an upper bound on the probability that
+    keys that differ in a cell are found the same at so many independent random
+    points, for m row and column bits together:
+    (1 - ((q - 1) / q)**m)**points, where q is p, or p*p if quadratic.
+
+    >>> likelihood(2)
+    Fraction(4294967293, 4611686014132420609)
+
+    Raises ValueError unless m is 0 to 60 and points is 1 to 1,000: the bound
+    for many points is a fraction of more digits than Python prints.
+    """
+    m = _between("m", m, 0, 2 * MOST_BITS)
+    points = _between("points", points, 1, _MOST_POINTS)
+    q = P**2 if quadratic else P
+    return (1 - fractions.Fraction(q - 1, q) ** m) ** points

@@ -1,0 +1,18 @@
+"""The Python module python/morgana.py, tested against tests/model, at its edges, and against what it repeats
+of other files. __main__ says how it went.
+
+subject    the module, loaded from this tree
+holding    what is wanted, compared with what is got
+forms      keys, points and sheets in the forms that a caller may have them in
+drawn      drawn keys, points and sheets, answered by the module and by tests/model
+samples    keys whose numbers README.md gives, and others that the edges need
+keys       the edges of keys
+points     those of coordinates, rows and columns
+sheets     those of sheets
+answers    what answers and refusals are, and how the module describes itself
+chances    random points, and the likelihood that keys that differ pass
+threads    calls in several threads at once
+loading    which library is loaded, and which are refused
+example    examples/python/compare.py, run as a program
+agreement  what the module repeats of the header, of the Rust package and of crates/refusal
+"""

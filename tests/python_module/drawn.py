@@ -1,0 +1,142 @@
+"""Drawn keys, points and sheets, whole and faulty, answered by the module and by tests/model."""
+
+import collections
+import re
+
+from tests.draw.changes import damaged, nearly, rewritten
+from tests.draw.keys import drawn_key, encoded
+from tests.draw.numbers import Draw, drawn_edges, drawn_place, drawn_point, numbered, spoiled
+from tests.model import calls as model
+from tests.model.fields import PRIME, QUADRATIC
+from tests.model.words import accepted, outcome, refused
+
+from . import forms
+from .holding import Failed, hold_equal
+from .subject import morgana
+
+KEYS = 200
+LEAST = 5
+KEY_FAULTS = range(1, 14)
+OUTCOMES = {
+    "check": ("accepted", *KEY_FAULTS),
+    "evaluate": ("accepted", *KEY_FAULTS, 21, 22, 23, 31),
+    "cell": ("accepted", *KEY_FAULTS, 24, 31),
+    "compare": ("same", "different", *KEY_FAULTS, 35, 21, 22, 23, 31),
+    "evaluate_quadratic": ("accepted", *KEY_FAULTS, 21, 22, 23, 31),
+    "compare_quadratic": ("same", "different", *KEY_FAULTS, 35, 21, 22, 23, 31),
+}
+WHICH = {1: "first ", 2: "second ", None: "neither "}
+
+
+def numbers_of(value):
+    """The numbers of A, of B or of C."""
+    return value if isinstance(value, morgana.Quadratic) else (value,)
+
+
+def in_words(answer):
+    """What the module answers, as tests/model words it."""
+    if isinstance(answer, morgana.Counts):
+        return accepted(answer.arrays, answer.cells, answer.calls, answer.rows, answer.columns)
+    if isinstance(answer, morgana.Compared):
+        return "same" if answer.same else "different"
+    return " ".join(str(x) for value in (answer.a, answer.b, answer.c) for x in numbers_of(value))
+
+
+def answered(name, *arguments):
+    """What a call of the module answers or refuses, in words."""
+    try:
+        return in_words(getattr(morgana, name)(*arguments))
+    except morgana.Refused as refusal:
+        which = WHICH[refusal.key] if name.startswith("compare") else ""
+        return which + refused(int(refusal.number), refusal.place)
+
+
+def kind_of(words):
+    """The number of a refusal in words, or the kind of the answer."""
+    number = re.match(r"(?:first |second |neither )?refused (\d+) ", words)
+    return int(number[1]) if number else words if words in ("same", "different") else "accepted"
+
+
+def beyond(draw, records):
+    """The bytes of a key that is too long and of one that has too many arrays, for one key in ten,
+    as they take long.
+    """
+    if draw.below(10) == 0:
+        yield encoded(records) + bytes(65536)
+        yield encoded([records[0], *[("sparse", (0, 0))] * 1024, *records[1:]])
+
+
+def points(draw, bits):
+    """Points of so many numbers on each side, any numbers and edges, half of them spoiled."""
+    for point in (drawn_point(draw, bits), drawn_edges(draw, bits)):
+        yield point
+        yield tuple(spoiled(draw, side) for side in point)
+
+
+class Sweep:
+    """Calls of the module, each compared with what tests/model answers; their outcomes are counted."""
+
+    def __init__(self):
+        self.draw = Draw()
+        self.counts = collections.Counter()
+
+    def hold(self, name, wanted, keys, rest=(), sheet=None):
+        """Compares one call, on the sheet where there is one, and then on the module's own."""
+        about = f"{name} {' '.join(key.hex() for key in keys)} at {rest} on {sheet}"
+        keys = [forms.one_of(self.draw, forms.KEYS, key) for key in keys]
+        if sheet is None:
+            hold_equal(about, wanted, answered(name, *keys))
+            answer = wanted
+        else:
+            lent = forms.one_of(self.draw, forms.SHEETS, sheet)
+            got = answered(name, *keys, *self.dressed(rest), lent)
+            hold_equal(about, wanted, outcome(got, list(lent)))
+            answer = wanted.split(" sheet")[0]
+            if kind_of(answer) != 31:
+                got = answered(name, *keys, *self.dressed(rest))
+                hold_equal(f"{about}, without a sheet", answer, got)
+        self.counts[name, kind_of(answer)] += 1
+
+    def dressed(self, rest):
+        """The sides of a point in one of their forms, and a row and a column as they are."""
+        draw, points = self.draw, forms.POINTS
+        return [forms.one_of(draw, points, x) if isinstance(x, list) else x for x in rest]
+
+    def hold_place(self, data, bits):
+        """Checks a key, and asks for a cell of it."""
+        self.hold("check", model.check(data), [data])
+        row, column = drawn_place(self.draw, [n + self.draw.below(2) for n in bits])
+        sheet = numbered(self.draw.below(15))
+        self.hold("cell", model.cell(data, row, column, sheet), [data], (row, column), sheet)
+
+    def hold_point(self, data, other, point, field):
+        """Evaluates a key, and compares it with another, in either order."""
+        sheet = numbered(self.draw.below(15 * field.size))
+        wanted = model.evaluate(data, *point, sheet, field=field)
+        self.hold(f"evaluate{field.suffix}", wanted, [data], point, sheet)
+        pair = [data, other] if self.draw.below(2) else [other, data]
+        wanted = model.compare(*pair, *point, sheet, field=field)
+        self.hold(f"compare{field.suffix}", wanted, pair, point, sheet)
+
+    def hold_key(self, records, field):
+        """Compares one drawn key, whole and damaged."""
+        draw, whole = self.draw, encoded(records)
+        others = [records, nearly(draw, records), rewritten(draw, records), drawn_key(draw)]
+        for data in (whole, *damaged(draw, records), *beyond(draw, records)):
+            self.hold_place(data, records[0][1])
+            for point in points(draw, [field.size * n for n in records[0][1]]):
+                self.hold_point(data, encoded(others[draw.below(4)]), point, field)
+
+
+def hold_all():
+    """Compares all drawn keys over both fields, and returns how many cases there were."""
+    sweep = Sweep()
+    for field in (PRIME, QUADRATIC):
+        for _ in range(KEYS):
+            sweep.hold_key(drawn_key(sweep.draw, 4, sweep.draw.below(2)), field)
+    wanted = {(name, kind) for name, kinds in OUTCOMES.items() for kind in kinds}
+    seldom = {each: sweep.counts[each] for each in wanted if sweep.counts[each] < LEAST}
+    if seldom:
+        raise Failed(f"each outcome must occur {LEAST} times at least; too seldom: {seldom}")
+    hold_equal("the outcomes that occurred", wanted, set(sweep.counts))
+    return sweep.counts.total()

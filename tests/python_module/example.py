@@ -1,0 +1,83 @@
+"""examples/python/compare.py, run as a program on files."""
+
+import os
+import pathlib
+import subprocess
+import sys
+import tempfile
+
+from . import samples
+from .subject import FOLDER, ROOT
+
+PROGRAM = ROOT / "examples/python/compare.py"
+FILES = {
+    "old": samples.OLD,
+    "new": samples.NEW,
+    "wrong": samples.WRONG,
+    "cut": samples.CUT,
+    "empty": b"",
+    "long": samples.LONGEST + b"\6",
+    "shortest": samples.SHORTEST,
+    "greatest": samples.GREATEST,
+}
+BOUND = "keys that differ would pass with probability at most"
+CASES = (
+    ("old new", 0, f"same\n{BOUND} 4.4e-19\n"),
+    ("new old", 0, f"same\n{BOUND} 4.4e-19\n"),
+    ("greatest greatest", 0, f"same\n{BOUND} 1.4e-17\n"),
+    ("shortest shortest", 0, f"same\n{BOUND} 0\n"),
+    ("old wrong", 1, "different\n"),
+    ("cut new", 2, "refused 2 at 30: record missing or cut off; first key\n"),
+    ("old cut", 2, "refused 2 at 30: record missing or cut off; second key\n"),
+    ("empty cut", 2, "refused 2 at 0: record missing or cut off; first key\n"),
+    ("old long", 2, "refused 1 at 65536: key over 65,536 bytes; second key\n"),
+    ("old shortest", 2, "refused 35 at 0: shapes differ\n"),
+    ("old absent", 3, ""),
+    ("folder old", 3, ""),
+    ("old", 3, ""),
+    ("old new wrong", 3, ""),
+    ("", 3, ""),
+)
+
+
+def run(folder, arguments, output=subprocess.PIPE, **variables):
+    """Runs the program in a folder, without standard output where that is None: its status, and
+    what it prints and says.
+    """
+    command = [sys.executable, "-B", str(PROGRAM), *arguments]
+    if output is None:
+        command = ["sh", "-c", 'exec "$@" >&-', "sh", *command]
+    # Output is kept until the end, as it is where the environment does not say otherwise.
+    environment = {**os.environ, "PYTHONPATH": str(FOLDER), "PYTHONUNBUFFERED": "", **variables}
+    done = subprocess.run(
+        command, cwd=folder, env=environment,
+        stdout=output, stderr=subprocess.PIPE, text=True, timeout=60, check=False,
+    )
+    return done.returncode, done.stdout, done.stderr
+
+
+def hold_failure(hold, about, ran):
+    """The program ended with 3, and said why in one line."""
+    status, _, errors = ran
+    hold.equal(f"{about}: the status", 3, status)
+    hold.equal(f"{about}: lines in {errors!r}", 1, len(errors.splitlines()))
+
+
+def hold_all(hold):
+    """Runs the program on files that are keys, are none, and are not there."""
+    with tempfile.TemporaryDirectory() as name:
+        folder = pathlib.Path(name)
+        (folder / "folder").mkdir()
+        for file, data in FILES.items():
+            (folder / file).write_bytes(data)
+        for arguments, status, printed in CASES:
+            ran = run(folder, arguments.split())
+            hold.equal(f"compare.py {arguments}", (status, printed), ran[:2])
+            if status == 3:
+                hold_failure(hold, f"compare.py {arguments}", ran)
+            else:
+                hold.equal(f"compare.py {arguments}: errors", "", ran[2])
+        with open("/dev/full", "w", encoding="utf-8") as full:
+            hold_failure(hold, "no room", run(folder, ["old", "new"], full))
+        hold_failure(hold, "no output", run(folder, ["old", "new"], None))
+        hold_failure(hold, "no library", run(folder, ["old", "new"], MORGANA_LIBRARY="absent"))
