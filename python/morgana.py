@@ -62,9 +62,10 @@ Threads. Other threads run during a call. Keys and points are copied before
 it; a caller's sheet must not be shared between simultaneous calls.
 
 The library is loaded on import: the one whose path the environment variable
-MORGANA_LIBRARY names, else the one in FOLDER, which `make install` writes into
-the installed module, else the one that the system's loader finds. ImportError
-is raised where there is none, or one of another major or minor version.
+MORGANA_LIBRARY names. Without that variable it is the one in FOLDER, which
+`make install` writes into the installed module, and where FOLDER is empty the
+one that the system's loader finds. ImportError is raised where there is none,
+or one of another major or minor version.
 """
 
 import ctypes
@@ -122,7 +123,7 @@ class Number(enum.IntEnum):
     ROW_COUNT_WRONG = 21, "row count not n, or not 2n over p²"
     COLUMN_COUNT_WRONG = 22, "column count not n', or not 2n' over p²"
     COORDINATE_TOO_GREAT = 23, "coordinate p or more"
-    ADDRESS_OUTSIDE = 24, "row outside the last array"  # Place 1: "column ...".
+    ADDRESS_OUTSIDE = 24, "row or column outside the last array"
     SHEET_TOO_SHORT = 31, "sheet below 3·arrays, or 6·arrays over p²"
     SHAPES_DIFFER = 35, "shapes differ"
 
@@ -153,8 +154,8 @@ class Refused(Exception):
     @property
     def sentence(self):
         """The condition that the number stands for."""
-        if self.number == Number.ADDRESS_OUTSIDE and self.place != 0:
-            return "column outside the last array"
+        if self.number == Number.ADDRESS_OUTSIDE:
+            return f"{'column' if self.place else 'row'} outside the last array"
         return self.number.sentence
 
     def __str__(self):
@@ -445,8 +446,10 @@ def likelihood(m, points=1, quadratic=False):
     >>> likelihood(2)
     Fraction(4294967293, 4611686014132420609)
 
-    Raises ValueError unless m is 0 to 60 and points is 1 to 1,000: the bound
-    for many points is a fraction of more digits than Python prints.
+    Raises ValueError unless m is 0 to 60 and points is 1 to 1,000. Of many
+    points the fraction has more digits than Python prints, as for m = 60 and 8
+    points: `float` gives a number to print, which may be too small by a rounding,
+    and is 0.0 where no float is as small.
     """
     m = _between("m", m, 0, 2 * MOST_BITS)
     points = _between("points", points, 1, _MOST_POINTS)

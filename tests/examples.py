@@ -78,13 +78,18 @@ uint32_t morgana_other(void) { return MORGANA_VERSION + 1000; }
 """
 
 
+# What would have cargo link another archive, or build elsewhere.
+ELSEWHERE = ("MORGANA_ARCHIVE", "CARGO_TARGET_DIR", "CARGO_BUILD_TARGET", "CARGO_BUILD_TARGET_DIR")
+
+
 class Failed(Exception):
     """An example is not as wanted."""
 
 
 def built(*command, folder="."):
-    """Runs a command that builds an example."""
-    done = subprocess.run(command, cwd=folder, capture_output=True, text=True, timeout=600)
+    """Runs a command that builds an example, into target/."""
+    usual = {name: value for name, value in os.environ.items() if name not in ELSEWHERE}
+    done = subprocess.run(command, cwd=folder, env=usual, capture_output=True, text=True, timeout=600)
     if done.returncode != 0:
         raise Failed(f"{command} ends with {done.returncode}\n{done.stderr}")
 
@@ -134,11 +139,14 @@ def check(folder, language, command):
         said = (done.returncode, done.stdout.startswith(start), bool(done.stdout), bool(done.stderr))
         if said != (status, True, status != 3, status == 3):
             raise Failed(f"{language} {arguments}: wanted {status} {start!r}, got {done}")
+    # With stdbuf what C prints is written line by line, as to a terminal.
     for arguments in (["old", "new"], ["old", "wrong"], ["old", "cut"]):
-        with open("/dev/full", "w") as full:
-            done = subprocess.run([*command, *arguments], stdout=full, stderr=subprocess.PIPE, **common)
-        if done.returncode != 3:
-            raise Failed(f"{language} {arguments} cannot print, and ends with {done.returncode}")
+        for line_by_line in ([], ["stdbuf", "-oL"]):
+            run = [*line_by_line, *command, *arguments]
+            with open("/dev/full", "w") as full:
+                done = subprocess.run(run, stdout=full, stderr=subprocess.PIPE, **common)
+            if done.returncode != 3:
+                raise Failed(f"{language} {run} cannot print, and ends with {done.returncode}")
 
 
 def main():

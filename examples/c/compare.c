@@ -63,7 +63,7 @@ int main(int argc, char **argv)
     else
         printf("refused %" PRIu32 " at %" PRIu64 "%s\n", reply.number,
                reply.place, at_fault[reply.key]);
-    if (fflush(stdout) != 0)
+    if (fflush(stdout) != 0 || ferror(stdout))
         err(3, "standard output");
     return reply.number == MORGANA_NOT_REFUSED ? !reply.same : 2;
 }

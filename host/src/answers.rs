@@ -1,6 +1,11 @@
 //! What the library answers when nothing is refused.
 
-/// The counts of an accepted key, with its shape. Later versions may answer more.
+/// The counts of an accepted key, with its shape. Later versions may add fields.
+///
+/// ```compile_fail
+/// let morgana::Counts { arrays, cells, calls, rows, columns } = morgana::check(&[])?;
+/// # Ok::<(), morgana::Refusal>(())
+/// ```
 #[derive(Debug, Clone, Copy, PartialEq, Eq)]
 #[non_exhaustive]
 pub struct Counts {
@@ -16,7 +21,12 @@ pub struct Counts {
     pub columns: u32,
 }
 
-/// What evaluate and cell answer: the values of the key's last array. Later versions may answer more.
+/// What evaluate and cell answer: the values of the key's last array. Later versions may add fields.
+///
+/// ```compile_fail
+/// let morgana::Evaluated { values } = morgana::cell(&[], 0, 0, &mut [])?;
+/// # Ok::<(), morgana::Refusal>(())
+/// ```
 #[derive(Debug, Clone, Copy)]
 #[non_exhaustive]
 pub struct Evaluated<V> {
@@ -55,7 +65,7 @@ pub struct QuadraticValues {
     pub c: Quadratic,
 }
 
-/// What compare answers about two keys at a point. Later versions may answer more.
+/// What compare answers about two keys at a point. Later versions may add fields.
 ///
 /// ```compile_fail
 /// let compared = morgana::Compared { same: true };

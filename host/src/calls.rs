@@ -5,7 +5,7 @@ use crate::answers::{Compared, Counts, Evaluated, Quadratic, QuadraticValues, Va
 use crate::constants::INTERFACE;
 use crate::raw;
 use crate::refusal::{CompareRefusal, Refusal, Which};
-use std::sync::Once;
+use std::sync::OnceLock;
 
 /// Answers the version of the library that is linked: 1,000,000 for each major, 1,000 for each minor and 1 for each
 /// patch version.
@@ -21,14 +21,18 @@ pub fn version() -> u32 {
 
 /// Panics where the library that is linked has another interface: its replies may be longer than those declared here.
 fn same_interface() {
-    static COMPARED: Once = Once::new();
-    COMPARED.call_once(|| {
-        let linked = version() / 1_000;
-        assert_eq!(linked, INTERFACE, "libmorgana.a is of another version");
-    });
+    static LINKED: OnceLock<u32> = OnceLock::new();
+    want_interface(*LINKED.get_or_init(version));
 }
 
-/// Answers the counts of an accepted key, with n and n'; or the first of refusals 1 to 13.
+/// Panics where a version has another interface than this package is written for.
+fn want_interface(version: u32) {
+    let linked = version / 1_000;
+    assert_eq!(linked, INTERFACE, "libmorgana.a is of another version");
+}
+
+/// Answers the counts of an accepted key, with n and n'; or refuses with 1, then record by record with 2 for no byte, 3,
+/// 2 for a cut body, 4, 6, 5, 7 to 12 by number, 13.
 pub fn check(key: &[u8]) -> Result<Counts, Refusal> {
     same_interface();
     // SAFETY: the pointer and the length are of one slice, which is lent until the call returns; replies are of this
@@ -215,5 +219,27 @@ fn refused(number: u32, place: u64) -> Result<(), Refusal> {
     match number {
         0 => Ok(()),
         _ => Err(Refusal { number, place }),
+    }
+}
+
+#[cfg(test)]
+mod tests {
+    use super::*;
+
+    #[test]
+    fn versions_that_differ_in_the_patch_have_one_interface() {
+        want_interface(version());
+        want_interface(1_000 * INTERFACE);
+        want_interface(1_000 * INTERFACE + 999);
+        same_interface();
+        same_interface();
+    }
+
+    #[test]
+    fn another_version_is_not_called() {
+        for other in [0, 1_000 * INTERFACE - 1, 1_000 * (INTERFACE + 1), u32::MAX] {
+            let called = std::panic::catch_unwind(|| want_interface(other));
+            assert!(called.is_err(), "{other}");
+        }
     }
 }

@@ -62,7 +62,7 @@ impl Likelihood {
         self.logarithm
     }
 
-    /// Whether the bound is 0: keys without bits have one cell, and every point shows it.
+    /// Whether the bound is 0: matrices of keys without bits have one place, and every point shows it.
     pub fn is_zero(self) -> bool {
         self.logarithm == f64::NEG_INFINITY
     }

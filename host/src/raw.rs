@@ -1,8 +1,9 @@
 //! The C interface of `libmorgana.a`, as `include/morgana.h` gives it.
 //!
 //! A slice is a pointer and then a length; the pointer of an empty slice may be null. A call is sound
-//! where each pointer and its length are of one slice that is lent for the call, and the sheet
-//! overlaps no other slice.
+//! where each pointer and its length are of one slice that is lent for the call, the sheet overlaps
+//! no other slice, and `morgana_version` answers this package's major and minor version: replies of
+//! another one may be longer. The functions of the package look at it themselves.
 
 use std::mem::{offset_of, size_of};
 

@@ -100,6 +100,11 @@ pub enum Which {
 }
 
 /// A refusal of compare, with the key that it is about.
+///
+/// ```compile_fail
+/// let refused = morgana::compare(&[], &[], &[], &[], &mut []).unwrap_err();
+/// let morgana::CompareRefusal { which, refusal } = refused;
+/// ```
 #[derive(Debug, Clone, Copy, PartialEq, Eq)]
 #[non_exhaustive]
 pub struct CompareRefusal {

@@ -1,6 +1,6 @@
-"""Compares the documents with what they speak of: runs the commands in README.md, docs/FORMAT.md and docs/JSON.md, compiles
-README.md's samples, follows the definitions that docs/TRUST.md lists, counts what README.md and docs/DECISIONS.md count, and compares
-the manual page with the help text. Prints one line and ends with status 0, or prints the first difference and ends with status 1.
+"""Compares the documents with what they speak of: runs the commands in README.md and in docs/, compiles README.md's samples,
+follows the definitions that docs/TRUST.md lists, counts what README.md and docs/DECISIONS.md count, and compares the manual page
+with the help text. Prints one line and ends with status 0, or prints the first difference and ends with status 1.
 """
 
 import os
@@ -19,6 +19,7 @@ def main():
         manual.check(os.path.abspath(TOOL))
         edits, files = figures.gate(), definitions.check()
         figures.claim()
+        figures.names()
         samples.check()
         commands = sessions.check_all(path)
     except sessions.Failed as failure:

@@ -1,7 +1,7 @@
 """The definitions that must be believed: those that the contracts of the C interface cite, and what they unfold to.
 
 A name is followed from the contracts to the file that defines it, and from there to the names in its definition. The files that
-are reached must be those that docs/TRUST.md lists, with their lines.
+are reached must be those that docs/TRUST.md lists, with their lines, each behind those that it uses.
 """
 
 import re
@@ -44,12 +44,17 @@ def mentions(text, name):
     return re.search(rf"(?<![\w'-]){re.escape(name)}(?![\w'-])", text)
 
 
+def is_definition(entry):
+    """Whether a name is defined in a file, and not declared in the code."""
+    return not entry[1].startswith("declared")
+
+
 def reached():
-    """The crate and file of every definition that the contracts unfold to."""
-    seen, todo = set(), list(uses(text_of(CONTRACTS)).values())
+    """The crate and file of every definition that the contracts unfold to, with the other files that those definitions use."""
+    seen, todo, found = set(), list(filter(is_definition, uses(text_of(CONTRACTS)).values())), {}
     while todo:
         crate, file, name = entry = todo.pop()
-        if entry in seen or file.startswith("declared"):
+        if entry in seen:
             continue
         seen.add(entry)
         text = text_of(f"crates/{crate}/specs/{file}.antt")
@@ -58,8 +63,10 @@ def reached():
         own = [name] if name in defined else [other for other in defined if mentions(defined[other], name)]
         for other in own:
             todo += [(crate, file, near) for near in defined if near != other and mentions(defined[other], near)]
-            todo += [found for far, found in uses(text).items() if mentions(defined[other], far)]
-    return {(crate, file) for crate, file, _ in seen}
+            far = [use for word, use in uses(text).items() if is_definition(use) and mentions(defined[other], word)]
+            todo += far
+            found.setdefault((crate, file), set()).update(use[:2] for use in far)
+    return found
 
 
 def listed():
@@ -80,7 +87,7 @@ def lines_of(crate, names):
 def check():
     """Compares docs/TRUST.md with the definitions, and answers how many files it lists."""
     text = text_of(TRUST)
-    part, total, files = 0, 0, set()
+    part, total, files, used = 0, 0, set(), reached()
     for crate, names, lines in listed():
         count = part if crate is None else lines_of(crate, names)
         if count != lines:
@@ -92,8 +99,11 @@ def check():
         else:
             part, total = part + count, total + count
             files |= {(crate, name) for name in names}
+            later = {use for name in names for use in used.get((crate, name), ())} - files
+            if later:
+                raise Failed(f"{TRUST} lists {crate} {names} before {sorted(later)}, which it uses")
     want(TRUST, text, r"These are ([\d,]+) lines in", total)
     want(TRUST, text, r"lines in (\d+) files", len(files))
-    if files != reached():
-        raise Failed(f"{TRUST} lists too much or too little: {sorted(files ^ reached())}")
+    if files != set(used):
+        raise Failed(f"{TRUST} lists too much or too little: {sorted(files ^ set(used))}")
     return len(files)

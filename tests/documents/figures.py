@@ -36,6 +36,17 @@ def gate():
     return len(edits)
 
 
+def names():
+    """Every name in back quotes in docs/TRUST.md stands in the crates or in the header."""
+    sources = glob.glob("crates/**/*.antt", recursive=True) + glob.glob("crates/**/*.rt", recursive=True)
+    known = set(re.findall(r"[\w'-]+", "\n".join(map(text_of, sources + ["host/include/morgana.h"]))))
+    # Commands, and words of the languages.
+    others = {"make", "test", "rt", "version", "main", "memset", "getrandom", "secrets", "cc", "rustc"}
+    used = {word for name in re.findall(r"`([^`]+)`", text_of("docs/TRUST.md")) for word in re.findall(r"[\w'-]+", name)}
+    if used - known - others:
+        raise Failed(f"docs/TRUST.md names what is not there: {sorted(used - known - others)}")
+
+
 def claim():
     """README.md has demand 3 in the words that stand in quotation marks beside its definition."""
     spec = text_of("crates/comparison/specs/AgreementBound.antt")

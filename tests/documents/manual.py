@@ -31,8 +31,8 @@ def statuses(text):
 
 
 def numbers(text):
-    """The large numbers that a text names."""
-    return set(re.findall(r"\d{4,}", text))
+    """The numbers that a text names."""
+    return set(re.findall(r"\d+", text))
 
 
 def check(program):

@@ -73,9 +73,23 @@ def bytes_of_format():
         raise Failed(f"docs/FORMAT.md goes through {key.hex()}, and writes {wanted}")
 
 
+def records_of_format():
+    """The records that docs/FORMAT.md lists have the kinds and the widths of crates/records/specs/Layout.antt."""
+    table = text_of("docs/FORMAT.md").split("## Records")[1].split("## Order")[0]
+    shown = {}
+    for kind, fields, length in re.findall(r"^\| (\d\d) \| [^|]+ \| ([^|]+) \| (\d+) \|$", table, re.MULTILINE):
+        shown[kind] = [int(width) for width in re.findall(r"\((\d+)\)", fields)]
+        if int(length) != 1 + sum(shown[kind]):
+            raise Failed(f"docs/FORMAT.md gives kind {kind} {length} bytes")
+    layout = re.findall(r"\(0x(\d\d), ([\d ∷]*)\[\]\)", text_of("crates/records/specs/Layout.antt"))
+    wanted = {kind: [int(width) for width in re.findall(r"\d+", widths)] for kind, widths in layout}
+    if shown != wanted:
+        raise Failed(f"docs/FORMAT.md has the records {shown}, and they are {wanted}")
+
+
 def members():
     """docs/JSON.md names every member and every status that the tool prints, and no other."""
-    code = text_of("host/src/bin/morgana/json.rs") + text_of("host/src/bin/morgana/records.rs")
+    code = "".join(text_of(f"host/src/bin/morgana/{name}.rs") for name in ("json", "points", "records"))
     printed = set(re.findall(r'(?:string|number|truth|value)\(\s*"(\w+)"', code))
     printed |= set(re.findall(r'\("(\w+)", ', text_of("host/src/bin/morgana/json.rs")))
     printed |= set(re.findall(r'status\("(\w+)"\)', code)) | {"status"}
@@ -91,5 +105,6 @@ def members():
 def check():
     """Compares all of it."""
     programs()
+    records_of_format()
     bytes_of_format()
     members()

@@ -2,7 +2,8 @@
 
 A command stands in an indented block behind `$ `, with the lines of its here-document, and what it prints stands behind
 it. The commands of a document run one after the other in one shell, in a folder that has nothing but links to the
-repository's examples, Python module and programs. Numbers that rest on random points are not compared, only where they stand.
+repository's folders. Numbers that rest on random points are not compared, only where they stand. Of the commands that run tests
+only the status is looked at, and they run fewer cases.
 """
 
 import os
@@ -13,8 +14,12 @@ import tempfile
 INDENT = "    "
 SECONDS = 120
 
-# What builds, what takes long, and what needs the library to be installed (tests/install does the same then).
-ELSEWHERE = re.compile(r"make |\(cd host |python3 -B -m tests\.|cc ")
+# What builds everything (tools/test has done it), and what needs the library to be installed (tests/install runs it then).
+ELSEWHERE = re.compile(r"make |cc ")
+
+# What runs tests, and its number of cases.
+TESTS = re.compile(r"\(cd host |python3 -B -m tests\.")
+CASES = re.compile(r"\b\d{5}\b")
 
 # What draws points, and how the lines begin whose numbers rest on them.
 DRAWS = re.compile(r"morgana (evaluate|compare)")
@@ -46,7 +51,7 @@ def commands(text):
 
 def run(folder, path, texts):
     """What each of some commands prints, in one shell in a folder."""
-    script = "".join(f"{text}\nprintf '\\0'\n" for text in texts)
+    script = "".join(f"{quick(text)}\nprintf '\\0'\n" for text in texts)
     done = subprocess.run(
         ["bash", "-c", script],
         cwd=folder,
@@ -57,6 +62,13 @@ def run(folder, path, texts):
         timeout=SECONDS,
     )
     return done.stdout.decode().split("\0")[:-1]
+
+
+def quick(command):
+    """A command as it is run: one that runs tests takes few cases, and prints where it fails."""
+    if not TESTS.match(command):
+        return command
+    return f"{CASES.sub('4000', command)} > tests.out 2>&1 || cat tests.out"
 
 
 def comparable(command, lines):
@@ -87,9 +99,9 @@ def check(folder, path, names):
 def check_all(path):
     """Runs the commands of every document; docs/JSON.md goes on with README.md's files."""
     count = 0
-    for names in (["README.md", "docs/JSON.md"], ["docs/FORMAT.md"]):
+    for names in (["README.md", "docs/JSON.md"], ["docs/FORMAT.md"], ["docs/TRUST.md"]):
         with tempfile.TemporaryDirectory() as folder:
-            for name in ("examples", "python", "target"):
+            for name in ("crates", "examples", "host", "python", "target", "tests"):
                 os.symlink(os.path.abspath(name), os.path.join(folder, name))
             count += check(folder, path, names)
     return count

@@ -12,6 +12,7 @@ UNSET = (
     ["MAKEFLAGS", "MFLAGS", "MAKELEVEL", "MAKEOVERRIDES", "PREFIX", "DESTDIR", "PYTHONDIR"]
     + ["LD_LIBRARY_PATH", "MORGANA_LIBRARY", "CPATH", "C_INCLUDE_PATH", "LIBRARY_PATH"]
     + ["PKG_CONFIG_PATH", "PKG_CONFIG_LIBDIR", "PKG_CONFIG_SYSROOT_DIR"]
+    + ["MORGANA_ARCHIVE", "CARGO_TARGET_DIR", "CARGO_BUILD_TARGET", "CARGO_BUILD_TARGET_DIR"]
 )
 
 
@@ -33,7 +34,7 @@ def hold(what, wanted, got):
         raise Failed(f"{what}\nwanted: {wanted!r}\ngot: {got!r}")
 
 
-def run(*arguments, data=b"", **variables):
+def run(*arguments, data=b"", stdout=subprocess.PIPE, **variables):
     """Runs a command on the data, with the environment variables given beside the usual ones."""
     usual = {name: value for name, value in os.environ.items() if name not in UNSET}
     ended = subprocess.run(
@@ -41,11 +42,12 @@ def run(*arguments, data=b"", **variables):
         cwd=ROOT,
         env=usual | {"LC_ALL": "C"} | variables,
         input=data,
-        capture_output=True,
+        stdout=stdout,
+        stderr=subprocess.PIPE,
         timeout=SECONDS,
         umask=0o077,  # Nothing that is installed may depend on it.
     )
-    return Ended(ended.returncode, ended.stdout.decode(), ended.stderr.decode())
+    return Ended(ended.returncode, (ended.stdout or b"").decode(), ended.stderr.decode())
 
 
 def printed(*arguments, data=b"", **variables):

@@ -5,7 +5,7 @@ import tempfile
 
 from .commands import Failed, hold, printed, run
 from .places import PYTHON, closed_folders, files_of, files_with, unlike_sources, wanted_files
-from .uses import hold_c, hold_library, hold_package, hold_programs, hold_python, written_keys
+from .uses import hold_c, hold_library, hold_package, hold_programs, hold_python, hold_readme, written_keys
 
 
 def command(target, variables):
@@ -27,9 +27,16 @@ def make_refused(target, wanted, **variables):
 
 
 def hold_prefix(folder, version):
-    """An installation below a prefix serves, and its removal leaves what is not of it."""
-    prefix = f"{folder}/prefix"
+    """An installation below a prefix serves, and its removal leaves what is not of it. What stood in the
+    place of a file is replaced, and not written to.
+    """
+    prefix, kept = f"{folder}/prefix", f"{folder}/kept"
+    os.makedirs(f"{prefix}/bin")
+    with open(kept, "w"):
+        pass
+    os.symlink(kept, f"{prefix}/bin/morgana")
     make("install", PREFIX=f"{prefix}/")
+    hold("bytes of what a link led to", 0, os.path.getsize(kept))
     make("install", PREFIX=prefix)
     hold("files below PREFIX", wanted_files(version), files_of(prefix))
     hold("files that are not their sources", [], unlike_sources(prefix, version))
@@ -38,6 +45,7 @@ def hold_prefix(folder, version):
     hold_package(prefix, version)
     hold_library(prefix, version)
     hold_c(prefix, folder, version, keys)
+    hold_readme(prefix, folder, keys)
     hold_python(prefix, PYTHON, version, keys)
     hold_programs(prefix, version, keys)
     with open(f"{prefix}/lib/libmorgana.so.other", "w"):
@@ -62,6 +70,14 @@ def hold_stage(folder, version):
     hold("files left below DESTDIR", {}, files_of(stage))
 
 
+def hold_unprinted(folder, version):
+    """An installation whose output cannot be written is whole all the same."""
+    with open("/dev/full", "w") as full:
+        ended = run(*command("install", {"PREFIX": folder}), stdout=full)
+    hold("what is said of it", True, ended.status != 0 and "it is done, but" in ended.errors)
+    hold("files below PREFIX", wanted_files(version), files_of(folder))
+
+
 def hold_line(path, wanted):
     """A file has a line once."""
     with open(path) as file:
@@ -81,6 +97,7 @@ def hold_refusals(folder):
         make_refused(target, "PREFIX must have only", PREFIX="/two words", **stage)
         given = {"PREFIX": "/here", "PYTHONDIR": "there"}
         make_refused(target, "PYTHONDIR must be an absolute path", **given, **stage)
+        make_refused(target, "DESTDIR must be an absolute path", PREFIX="/here", DESTDIR="there")
     make_refused("install", "Not a directory", PREFIX=blocked)
     os.makedirs(f"{folder}/taken/bin/morgana")
     make_refused("install", "Is a directory", PREFIX=f"{folder}/taken")
@@ -89,17 +106,21 @@ def hold_refusals(folder):
 
 
 def hold_halves(folder):
-    """A file that cannot be installed stops it, and one that cannot be removed does not stop the rest."""
+    """A file that cannot be installed stops it, and one that cannot be removed does not stop the rest. A
+    module that another python3 was given goes too, and another module of its name stays.
+    """
     prefix = f"{folder}/half"
     os.makedirs(f"{prefix}/lib/libmorgana.so/held")
     make_refused("install", "6 files are in their places", PREFIX=prefix)
     hold("files of the half", 6, len(files_of(prefix)))
-    other = f"{prefix}/lib/python3.1/site-packages"
-    os.makedirs(other)
-    with open(f"{other}/morgana.py", "w"):
-        pass
+    for other, text in (("python3.1", f'\nFOLDER = "{prefix}/lib"\n'), ("python3.2", "another module\n")):
+        os.makedirs(f"{prefix}/lib/{other}/site-packages/__pycache__")
+        for name in ("morgana.py", "__pycache__/morgana.cpython-31.opt-1.pyc"):
+            with open(f"{prefix}/lib/{other}/site-packages/{name}", "w") as file:
+                file.write(text)
     make_refused("uninstall", "libmorgana.so", PREFIX=prefix)
-    hold("files left of the half", {}, files_of(prefix))
+    left = {name for name in files_of(prefix) if "python3.2" not in name}
+    hold("files left of the half", (set(), 2), (left, len(files_of(prefix))))
 
 
 def hold_all():
@@ -108,6 +129,8 @@ def hold_all():
     The stage comes first: an installation that ignores PREFIX fails there, and not on the machine.
     """
     version = printed("tools/version").strip()
+    with tempfile.TemporaryDirectory() as folder:
+        hold_unprinted(folder, version)
     with tempfile.TemporaryDirectory() as folder:
         hold_stage(folder, version)
         hold_refusals(folder)

@@ -96,6 +96,7 @@ def hold_library(prefix, version):
     node = "MORGANA_" + soname_of(version).removeprefix("libmorgana.so.")
     hold("symbols shown", sorted(f"morgana_{name}@@{node}" for name in CALLS), sorted(shown))
     said = printed("readelf", "--wide", "--dynamic", library)
+    hold("what it needs", ["libc.so.6"], re.findall(r"\(NEEDED\).*\[(.*)\]", said))
     hold("bound when it is loaded", True, "BIND_NOW" in said or "NOW" in said.split("FLAGS_1")[-1])
 
 
@@ -127,6 +128,18 @@ def hold_c(prefix, folder, version, keys):
     static = compiled(f"{folder}/static", *cflags.split(), f"{libdir}/libmorgana.a")
     hold("what the static example needs", [], dynamic(static, "Shared library"))
     hold_example(static, keys)
+
+
+def hold_readme(prefix, folder, keys):
+    """The command with which README.md compiles the example makes a program that does its work."""
+    if not shutil.which("pkg-config"):
+        return
+    with open("README.md", encoding="utf-8") as file:
+        commands = re.findall(r"^    \$ (cc .*) -o compare$", file.read(), re.MULTILINE)
+    hold("commands of README.md that compile the example", 1, len(commands))
+    program = f"{folder}/readme"
+    printed("sh", "-c", f"{commands[0]} -o {program}", PKG_CONFIG_PATH=f"{prefix}/lib/pkgconfig")
+    hold_example(program, keys, LD_LIBRARY_PATH=f"{prefix}/lib")
 
 
 def hold_python(prefix, python, version, keys):

@@ -4,7 +4,8 @@
 //!     cargo run --release -- OLD NEW
 //!
 //! Prints `same`, `different` or the refusal, and ends with 0, 1 or 2; with 3
-//! where anything else is wrong.
+//! where anything else is wrong. (An output that is closed from the start is
+//! /dev/null to a Rust program.)
 
 use morgana::{CompareRefusal, Field, Likelihood, Point, RandomPoints};
 use std::error::Error;

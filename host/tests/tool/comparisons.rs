@@ -1,6 +1,6 @@
 //! The command that compares two keys.
 
-use crate::keys::{flat, sample, single, wide};
+use crate::keys::{flat, sample, single, single_in_two, wide};
 use crate::support::Folder;
 
 /// The verdict's two lines, and the numbers of each line of the points.
@@ -85,13 +85,7 @@ fn identical_files_are_certain_whatever_the_points() {
 
 #[test]
 fn a_key_of_one_cell_is_certain() {
-    let twice = [
-        &[1, 0, 0, 2, 0, 0][..],
-        &crate::keys::cell(0, 0, 1, 1, 1),
-        &crate::keys::cell(0, 0, 0, 1, 2),
-        &[6],
-    ];
-    let folder = Folder::new("one", &[("once", &single(1)), ("twice", &twice.concat())]);
+    let folder = Folder::new("one", &[("once", &single(1)), ("twice", &single_in_two())]);
     folder.run(&["compare", "once", "twice"]).answers(
         0,
         "same\nthe matrices have one place, and it was compared, so this is certain\nrows\ncolumns\n",

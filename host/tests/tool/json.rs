@@ -99,7 +99,7 @@ fn evaluate_has_an_object_for_each_point() {
     folder.run(&["evaluate", "sample", "--json", "--point=point"]).answers(
         2,
         "{\"command\":\"evaluate\",\"file\":\"sample\",\"status\":\"refused\",\"number\":21,\"place\":2,\
-         \"reason\":\"row count not n, or not 2n over p²\",\"detail\":\"2 given, 1 wanted\",\
+         \"reason\":\"row count not n, or not 2n over p²\",\"detail\":\"2 given, 1 wanted (2 with --quadratic)\",\
          \"points_from\":\"point\",\"point\":1}\n",
     );
 }

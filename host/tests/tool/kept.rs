@@ -28,7 +28,8 @@ fn a_later_point_may_show_the_difference() {
     folder.write("points", &[&POINTS[..17], b"rows\ncolumns\n"].concat());
     run(&["flat", "other"]).answers(
         2,
-        "refused 21 at 0: row count not n, or not 2n over p²; 0 given, 1 wanted; point 2 of \"points\"\n",
+        "refused 21 at 0: row count not n, or not 2n over p²; 0 given, 1 wanted; point 2 of \"points\"; \
+         keys \"flat\" \"other\"\n",
     );
 }
 

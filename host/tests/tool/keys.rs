@@ -60,6 +60,12 @@ pub fn single(a: u32) -> Vec<u8> {
     [head(0, 0), sparse(0, 0), cell(0, 0, a, 2, 3), END.to_vec()].concat()
 }
 
+/// A key with the values of `single(1)` as the sum of two cells.
+pub fn single_in_two() -> Vec<u8> {
+    let cells = [cell(0, 0, 1, 1, 1), cell(0, 0, 0, 1, 2)].concat();
+    [head(0, 0), sparse(0, 0), cells, END.to_vec()].concat()
+}
+
 /// A key of 65,536 bytes: four sparse arrays, and 3,120 cells in the last.
 pub fn longest() -> Vec<u8> {
     let openings = sparse(0, 0).repeat(4);

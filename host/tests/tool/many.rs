@@ -1,7 +1,8 @@
 //! Several keys at once: check of several files, compare of two folders and of a list of pairs.
 
-use crate::keys::{flat, sample, single};
+use crate::keys::{flat, sample, single, single_in_two};
 use crate::support::Folder;
+use std::fs;
 
 const BOUND: &str = "bound 8.1e-28 (m = 2, 3 points)";
 
@@ -65,7 +66,8 @@ fn folders_are_compared_by_the_paths_in_them() {
     folder.write("new/deep/bad", b"\xff");
     folder.write("old/deep/bad", &sample());
     let refused =
-        "refused 3 at 0: unknown kind; kind ff, and kinds are 01 to 06; new key \"new/deep/bad\"\n";
+        "refused 3 at 0: unknown kind; kind ff, and kinds are 01 to 06; new key \"new/deep/bad\"; \
+         keys \"old/deep/bad\" \"new/deep/bad\"\n";
     let wanted = [&same[0], &same[1], different, refused, &same[2]].concat();
     folder.run(&["compare", "old/", "new"]).status(2);
     folder.run(&["compare", "old", "new"]).answers(2, &wanted);
@@ -153,17 +155,11 @@ fn points_are_read_once_for_all_pairs() {
 
 #[test]
 fn pairs_of_one_place_are_certain() {
-    let sum = [
-        &[1, 0, 0, 2, 0, 0][..],
-        &crate::keys::cell(0, 0, 1, 1, 1),
-        &crate::keys::cell(0, 0, 0, 1, 2),
-        &[6],
-    ];
     let folder = Folder::new(
         "one-many",
         &[
             ("once", &single(1)),
-            ("sum", &sum.concat()),
+            ("sum", &single_in_two()),
             ("list", b"once sum\n"),
         ],
     );
@@ -174,6 +170,42 @@ fn pairs_of_one_place_are_certain() {
         "{\"command\":\"compare\",\"old\":\"once\",\"new\":\"sum\",\"status\":\"same\",\
          \"certain\":true,\"identical\":false,\"field\":\"p\",\"m\":0,\"count\":1}\n",
     );
+}
+
+#[test]
+fn a_folder_that_cannot_be_read_is_said() {
+    let folder = Folder::new("deep", &[]);
+    folder.folder("old");
+    // A path is limited to 4,096 bytes: this one is made in two halves, of which one is moved into the other.
+    let name = "d".repeat(250);
+    let half = [name.as_str(); 9].join("/");
+    for path in [format!("new/{half}"), format!("rest/{half}")] {
+        fs::create_dir_all(folder.path(&path)).expect("the folders are made");
+    }
+    let (from, to) = (format!("rest/{name}"), format!("new/{half}/{name}"));
+    fs::rename(folder.path(&from), folder.path(&to)).expect("the folder is moved");
+    folder.write("old/a", &sample());
+    folder.write("new/a", &sample());
+    let ran = folder.run(&["compare", "old", "new"]);
+    ran.status(3);
+    let lines: Vec<_> = ran.out.lines().collect();
+    assert_eq!(
+        lines[0],
+        "same \"old/a\" \"new/a\"; certain, identical files"
+    );
+    let start = format!("failed \"old/{name}/{name}");
+    let cause = format!("cannot read \"new/{name}/{name}");
+    assert!(
+        lines[1].starts_with(&start) && lines[1].contains(&cause),
+        "{}",
+        lines[1]
+    );
+    assert!(
+        lines[1].ends_with("File name too long (os error 36)"),
+        "{}",
+        lines[1]
+    );
+    assert_eq!(lines.len(), 2);
 }
 
 #[test]

@@ -76,6 +76,18 @@ fn a_closed_output_is_said() {
 }
 
 #[test]
+fn a_file_that_may_not_grow_is_said() {
+    let folder = Folder::new("limit", &[("sample", &sample())]);
+    let program = folder.program::<&str>(&[]);
+    let mut shell = Command::new("sh");
+    shell.args(["-c", "ulimit -f 0; exec \"$0\" check sample > out"]);
+    shell.arg(program.get_program());
+    let path = program.get_current_dir().expect("a folder");
+    let ran = Ran::of(shell.current_dir(path).output().expect("sh runs"));
+    ran.fails(&["cannot write to standard output: File too large"]);
+}
+
+#[test]
 fn a_closed_input_is_no_empty_key() {
     let folder = Folder::new("closed-input", &[("sample", &sample())]);
     for (redirection, status) in [

@@ -17,7 +17,7 @@ fn refused() -> Vec<(Vec<u8>, &'static str)> {
         ]
         .concat()
     };
-    let inner = |rest: Vec<u8>| [head(2, 1), sparse(2, 0), recursive(1, 1), rest].concat();
+    let inner = |rest: Vec<u8>| [head(2, 1), sparse(2, 0), recursive(1, 0), rest].concat();
     let wider = |rest: Vec<u8>| [head(2, 1), sparse(0, 1), recursive(1, 0), rest].concat();
     vec![
         (vec![], "2 at 0: record missing or cut off; the key has 0 bytes and no end"),
@@ -87,10 +87,13 @@ fn refused() -> Vec<(Vec<u8>, &'static str)> {
             calling(vec![]).into_iter().chain(sparse(0, 0)).chain(cell(0, 1, 0, 0, 0)).collect(),
             "7 at 15: cell address outside its array; column 1 in array 3, whose columns are 0 alone",
         ),
-        (opened(cell(0, 0, p, p, 0)), "8 at 6: cell value p or more; A is 2147483647, at most 2147483646"),
         (
-            opened(cell(0, 0, 0, 0, u32::MAX)),
-            "8 at 6: cell value p or more; C is 4294967295, at most 2147483646",
+            opened(cell(0, 0, p, p, 0)),
+            "8 at 6: cell value p or more; A is 2147483647 in array 0, at most 2147483646",
+        ),
+        (
+            opened([sparse(0, 0), cell(0, 0, 0, 0, u32::MAX)].concat()),
+            "8 at 9: cell value p or more; C is 4294967295 in array 1, at most 2147483646",
         ),
         (
             [head(0, 0), recursive(0, 0), call(0, 0, 0)].concat(),
@@ -245,22 +248,22 @@ fn a_refused_point_is_told_with_what_is_wanted() {
         (
             "rows 1\ncolumns 1 2\n",
             &[],
-            "refused 22 at 2: column count not n', or not 2n' over p²; 2 given, 1 wanted",
+            "refused 22 at 2: column count not n', or not 2n' over p²; 2 given, 1 wanted (2 with --quadratic)",
         ),
         (
             "rows 2147483647\ncolumns 2147483647\n",
             &[],
-            "refused 23 at 0: coordinate p or more; row coordinate 0 is 2147483647",
+            "refused 23 at 0: coordinate p or more; row coordinate 0 is 2147483647, at most 2147483646",
         ),
         (
             "rows 1\ncolumns 4294967295\n",
             &[],
-            "refused 23 at 1: coordinate p or more; column coordinate 0 is 4294967295",
+            "refused 23 at 1: coordinate p or more; column coordinate 0 is 4294967295, at most 2147483646",
         ),
         (
             "rows 1\ncolumns 1 2\n",
             &["--quadratic"],
-            "refused 21 at 1: row count not n, or not 2n over p²; 1 given, 2 wanted",
+            "refused 21 at 1: row count not n, or not 2n over p²; 1 given, 2 wanted (1 without --quadratic)",
         ),
         (
             "rows 1 2\ncolumns 1 2 3 4\n",
@@ -270,18 +273,21 @@ fn a_refused_point_is_told_with_what_is_wanted() {
         (
             "rows 2147483647 2\ncolumns 3 4\n",
             &["--quadratic"],
-            "refused 23 at 0: coordinate p or more; u of row coordinate 0 is 2147483647",
+            "refused 23 at 0: coordinate p or more; u of row coordinate 0 is 2147483647, at most 2147483646",
         ),
         (
             "rows 1 2\ncolumns 3 2147483647\n",
             &["--quadratic"],
-            "refused 23 at 3: coordinate p or more; v of column coordinate 0 is 2147483647",
+            "refused 23 at 3: coordinate p or more; v of column coordinate 0 is 2147483647, at most 2147483646",
         ),
     ] {
         folder.write("point", point.as_bytes());
-        let wanted = format!("{wanted}; point 1 of \"point\"\n");
-        for keys in [&["evaluate", "sample"][..], &["compare", "sample", "flat"]] {
-            let arguments = [keys, &["--point", "point"], option].concat();
+        for (command, keys) in [
+            (&["evaluate", "sample"][..], "key \"sample\""),
+            (&["compare", "sample", "flat"], "keys \"sample\" \"flat\""),
+        ] {
+            let arguments = [command, &["--point", "point"], option].concat();
+            let wanted = format!("{wanted}; point 1 of \"point\"; {keys}\n");
             folder.run(&arguments).answers(2, &wanted);
         }
     }
@@ -300,27 +306,27 @@ fn rows_and_columns_have_their_own_count() {
         (
             "rows 1 2\ncolumns 1 2\n",
             &[],
-            "22 at 2: column count not n', or not 2n' over p²; 2 given, 1 wanted",
+            "22 at 2: column count not n', or not 2n' over p²; 2 given, 1 wanted (2 with --quadratic)",
         ),
         (
             "rows 1 2 3 4\ncolumns 1\n",
             &["--quadratic"],
-            "22 at 1: column count not n', or not 2n' over p²; 1 given, 2 wanted",
+            "22 at 1: column count not n', or not 2n' over p²; 1 given, 2 wanted (1 without --quadratic)",
         ),
         (
             "rows 1 2 3 4\ncolumns 1 4294967295\n",
             &["--quadratic"],
-            "23 at 5: coordinate p or more; v of column coordinate 0 is 4294967295",
+            "23 at 5: coordinate p or more; v of column coordinate 0 is 4294967295, at most 2147483646",
         ),
         (
             "rows 1 2 4294967295 4\ncolumns 1 2\n",
             &["--quadratic"],
-            "23 at 2: coordinate p or more; u of row coordinate 1 is 4294967295",
+            "23 at 2: coordinate p or more; u of row coordinate 1 is 4294967295, at most 2147483646",
         ),
     ] {
         folder.write("point", point.as_bytes());
         let arguments = [&["evaluate", "key", "--point", "point"], option].concat();
-        let wanted = format!("refused {wanted}; point 1 of \"point\"\n");
+        let wanted = format!("refused {wanted}; point 1 of \"point\"; key \"key\"\n");
         folder.run(&arguments).answers(2, &wanted);
     }
     folder.run(&["cell", "key", "3", "2"]).answers(
@@ -336,7 +342,8 @@ fn what_is_answered_before_a_refused_point_is_printed() {
     folder.run(&["evaluate", "sample", "--point=two"]).answers(
         2,
         "rows 0\ncolumns 1\n0 5 7 0\n1 10 14 0\nA 10 B 14 C 0\n\
-         refused 22 at 0: column count not n', or not 2n' over p²; 0 given, 1 wanted; point 2 of \"two\"\n",
+         refused 22 at 0: column count not n', or not 2n' over p²; 0 given, 1 wanted; point 2 of \"two\"; \
+         key \"sample\"\n",
     );
     let ran = folder.run(&["evaluate", "sample", "--point=two", "--json"]);
     ran.status(2);

@@ -1,6 +1,6 @@
 //! Points that were printed, used again.
 
-use crate::keys::{flat, sample, single, wide, wide_in_two};
+use crate::keys::{flat, sample, single, single_in_two, wide, wide_in_two};
 use crate::support::Folder;
 
 #[test]
@@ -24,6 +24,43 @@ fn what_evaluate_printed_can_be_used_again() {
             assert_ne!(run(&[key]), first);
         }
     }
+}
+
+#[test]
+fn points_of_the_other_field_are_not_taken() {
+    let folder = Folder::new("other-field", &[("sample", &sample()), ("flat", &flat())]);
+    for command in [&["evaluate", "sample"][..], &["compare", "sample", "flat"]] {
+        for (from, to, words) in [
+            (
+                &["--quadratic"][..],
+                &[][..],
+                "a point over p² goes with --quadratic",
+            ),
+            (
+                &[],
+                &["--quadratic"],
+                "a point over p goes without --quadratic",
+            ),
+        ] {
+            let printed = folder.run(&[command, &["--json"], from].concat());
+            folder.write("out", printed.out.as_bytes());
+            let again = folder.run(&[command, &["--point=out"], to].concat());
+            again.fails(&["\"out\" line 1: ", words]);
+        }
+    }
+}
+
+#[test]
+fn a_mark_of_utf8_is_no_part_of_a_file() {
+    let folder = Folder::new("mark", &[("sample", &sample()), ("flat", &flat())]);
+    folder.write("point", b"\xef\xbb\xbfrows 3\ncolumns 4\n");
+    folder.write("list", b"\xef\xbb\xbfsample flat\n");
+    folder
+        .run(&["compare", "--pairs=list", "--point=point"])
+        .answers(
+            0,
+            "same \"sample\" \"flat\"; no bound, 1 point of \"point\"\n",
+        );
 }
 
 /// The lines of the points in compare's output: those behind the verdict and its reason.
@@ -82,15 +119,9 @@ fn a_point_that_shows_a_difference_shows_it_again() {
 
 #[test]
 fn points_of_a_file_have_no_bound_but_may_be_certain() {
-    let sum = [
-        &[1, 0, 0, 2, 0, 0][..],
-        &crate::keys::cell(0, 0, 1, 1, 1),
-        &crate::keys::cell(0, 0, 0, 1, 2),
-        &[6],
-    ];
     let folder = Folder::new(
         "certain-again",
-        &[("once", &single(1)), ("sum", &sum.concat())],
+        &[("once", &single(1)), ("sum", &single_in_two())],
     );
     folder.write("point", b"rows\ncolumns\n");
     folder

@@ -41,6 +41,11 @@ impl Folder {
         fs::create_dir(self.0.join(name)).expect("the folder is made");
     }
 
+    /// The path of what stands in this folder.
+    pub fn path(&self, name: &str) -> PathBuf {
+        self.0.join(name)
+    }
+
     /// Makes a link in this folder.
     pub fn link(&self, to: &str, name: &str) {
         symlink(to, self.0.join(name)).expect("the link is made");

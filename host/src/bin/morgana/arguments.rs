@@ -117,11 +117,7 @@ impl Given {
                 Some(option) if allowed.contains(&option) => {
                     given.set(option, value, &mut arguments)?
                 }
-                _ if argument.as_bytes().starts_with(b"-") => {
-                    return Err(format!(
-                        "there is no option {option:?} here; a file of that name goes behind --"
-                    ))
-                }
+                _ if argument.as_bytes().starts_with(b"-") => return Err(no_option(&option)),
                 _ => given.names.push(argument),
             }
         }
@@ -165,6 +161,9 @@ impl Given {
         }
         if self.point.is_some() && self.points.is_some() {
             return Err("--point and --points exclude each other".to_owned());
+        }
+        if self.pairs.is_some() && !self.names.is_empty() {
+            return Err("--pairs and OLD NEW exclude each other".to_owned());
         }
         let read = self.names.iter().chain(&self.point).chain(&self.pairs);
         if read.filter(|name| *name == "-").count() > 1 {
@@ -224,6 +223,15 @@ impl Given {
             field: self.field(),
             quiet: self.quiet,
         }
+    }
+}
+
+/// What is wrong with an option that there is not.
+fn no_option(option: &OsStr) -> String {
+    let digits = option.as_bytes()[1..].iter().all(u8::is_ascii_digit);
+    match digits {
+        true => format!("{option:?} is negative, and no number here is"),
+        false => format!("there is no option {option:?} here; a file of that name goes after --"),
     }
 }
 

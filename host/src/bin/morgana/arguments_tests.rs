@@ -109,11 +109,12 @@ fn compare_takes_a_list_of_pairs() {
         let (list, manner) = (Name::from("l"), manner(Points::Number(2)));
         assert_eq!(command(words), Command::ComparePairs { list, manner });
     }
-    for words in [&["compare", "a", "--pairs", "l"][..], &["compare"]] {
-        assert!(fault(words).starts_with("compare takes OLD NEW, or --pairs FILE: "));
+    let wanted = "compare takes OLD NEW, or --pairs FILE: 0 given";
+    assert_eq!(fault(&["compare"]), wanted);
+    for names in [&["a"][..], &["a", "b"]] {
+        let words = [&["compare", "--pairs", "l"], names].concat();
+        assert_eq!(fault(&words), "--pairs and OLD NEW exclude each other");
     }
-    let wanted = "compare takes OLD NEW, or --pairs FILE: 2 given";
-    assert_eq!(fault(&["compare", "a", "b", "--pairs", "l"]), wanted);
 }
 
 #[test]
@@ -263,9 +264,10 @@ fn an_option_belongs_to_its_command() {
         &["compare", "a", "b", "--random"],
         &["evaluate", "k", "--points", "1"],
         &["evaluate", "k", "--pairs", "l"],
-        &["cell", "k", "-1", "0"],
         &["check", "k", "--help=x"],
     ] {
         assert!(fault(words).starts_with("there is no option"), "{words:?}");
     }
+    let negative = fault(&["cell", "k", "-1", "0"]);
+    assert_eq!(negative, "\"-1\" is negative, and no number here is");
 }

@@ -4,7 +4,7 @@ use crate::fault::{detail, upto};
 use crate::files::Name;
 use crate::outcome::{About, Evaluation, Failure, Outcome, Refused};
 use crate::show;
-use morgana::{number, Counts, Field, Point, RandomPoints, Refusal, SHEET_QUADRATIC};
+use morgana::{number, Counts, Field, Point, RandomPoints, Refusal, P, SHEET_QUADRATIC};
 use std::iter;
 
 /// The key's length and counts.
@@ -36,7 +36,7 @@ pub fn evaluate<'a>(
     field: Field,
 ) -> Result<Box<dyn Iterator<Item = Outcome> + 'a>, Failure> {
     let key = file.key()?;
-    let points = given.map(Name::points).transpose()?;
+    let points = given.map(|file| file.points(field)).transpose()?;
     let counts = match morgana::check(&key) {
         Ok(counts) => counts,
         Err(refusal) => return Ok(Box::new(iter::once(refused_key(file, &key, refusal)))),
@@ -116,22 +116,31 @@ fn random(counts: Counts, field: Field) -> Result<Point, Failure> {
         .map_err(Failure::Random)
 }
 
-/// What is known of the refusal of a point: how many numbers there are and how many there must be, or which is p or
-/// more.
+/// What is known of the refusal of a point: how many numbers there are and how many there must be, also where the other
+/// field has as many, or which is p or more.
 pub fn point_detail(
     refusal: Refusal,
     point: &Point,
     counts: Counts,
     field: Field,
 ) -> Option<String> {
-    let wanted = |bits: u32| bits as usize * field.numbers();
-    let given = |given: usize, wanted: usize| Some(format!("{given} given, {wanted} wanted"));
-    match refusal.number {
-        number::ROW_COUNT_WRONG => given(point.rows.len(), wanted(counts.rows)),
-        number::COLUMN_COUNT_WRONG => given(point.columns.len(), wanted(counts.columns)),
-        number::COORDINATE_TOO_GREAT => coordinate_detail(refusal.place as usize, point, field),
-        _ => None,
-    }
+    let (given, bits) = match refusal.number {
+        number::ROW_COUNT_WRONG => (point.rows.len(), counts.rows as usize),
+        number::COLUMN_COUNT_WRONG => (point.columns.len(), counts.columns as usize),
+        number::COORDINATE_TOO_GREAT => {
+            return coordinate_detail(refusal.place as usize, point, field)
+        }
+        _ => return None,
+    };
+    let detail = format!("{given} given, {} wanted", bits * field.numbers());
+    let (other, option) = match field {
+        Field::Prime => (Field::Quadratic, "with"),
+        Field::Quadratic => (Field::Prime, "without"),
+    };
+    Some(match given == bits * other.numbers() {
+        true => format!("{detail} ({given} {option} --quadratic)"),
+        false => detail,
+    })
 }
 
 /// Which number of a point is p or more.
@@ -147,7 +156,10 @@ fn coordinate_detail(index: usize, point: &Point, field: Field) -> Option<String
         (Field::Quadratic, 0) => "u of ",
         (Field::Quadratic, _) => "v of ",
     };
-    Some(format!("{part}{word} coordinate {coordinate} is {number}"))
+    Some(format!(
+        "{part}{word} coordinate {coordinate} is {number}, at most {}",
+        P - 1
+    ))
 }
 
 /// The refusal of a command's one key.

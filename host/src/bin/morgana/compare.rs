@@ -34,7 +34,7 @@ impl Manner {
     /// The points of a file, where it is they that are to be tried; they are read once for all pairs of keys.
     pub fn given(&self) -> Result<Given, Failure> {
         match &self.points {
-            Points::File(file) => Ok(Some((file.clone(), file.points()?))),
+            Points::File(file) => Ok(Some((file.clone(), file.points(self.field)?))),
             _ => Ok(None),
         }
     }

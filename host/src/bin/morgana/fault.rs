@@ -63,7 +63,7 @@ pub fn detail(key: &[u8], refusal: Refusal) -> Option<String> {
         (number::BITS_TOO_MANY, Ok((record, _))) => bits(&before, record),
         (number::ARRAYS_TOO_MANY, _) => Some("arrays are numbered 0 to 1023".to_owned()),
         (number::CELL_OUTSIDE, Ok((record, _))) => address(&before, record),
-        (number::VALUE_TOO_GREAT, Ok((record, _))) => value(record),
+        (number::VALUE_TOO_GREAT, Ok((record, _))) => value(&before, record),
         (number::LAST_SHAPE_WRONG, Ok(_)) => last_shape(&before),
         (number, Ok((record, _))) => call(&before, record, number),
     }
@@ -163,13 +163,17 @@ fn address(before: &Before, record: Record) -> Option<String> {
 }
 
 /// The value that is p or more (8).
-fn value(record: Record) -> Option<String> {
+fn value(before: &Before, record: Record) -> Option<String> {
+    let (array, _) = before.open()?;
     let Record::Cell { a, b, c, .. } = record else {
         return None;
     };
     let values = [("A", a), ("B", b), ("C", c)];
     let (name, value) = values.into_iter().find(|(_, value)| *value >= P)?;
-    Some(format!("{name} is {value}, at most {}", P - 1))
+    Some(format!(
+        "{name} is {value} in array {array}, at most {}",
+        P - 1
+    ))
 }
 
 /// What is wrong with a call (9, 10, 11).

@@ -3,7 +3,7 @@
 use crate::closed;
 use crate::outcome::Failure;
 use crate::points;
-use morgana::{Point, KEY_LIMIT};
+use morgana::{Field, Point, KEY_LIMIT};
 use std::ffi::{OsStr, OsString};
 use std::fmt::{Display, Formatter};
 use std::fs::{self, File};
@@ -12,6 +12,9 @@ use std::path::{Path, PathBuf};
 
 /// The most bytes that a point file or a list of pairs may have.
 const MOST: u64 = 1 << 31;
+
+/// The mark of UTF-8.
+const MARK: &[u8] = b"\xef\xbb\xbf";
 
 /// A file as an argument names it, where `-` is standard input, or one that was found in a folder.
 #[derive(Debug, Clone, PartialEq, Eq)]
@@ -67,12 +70,16 @@ impl Name {
         }
     }
 
-    /// The whole file, unless it has more than 2^31 bytes.
+    /// The text of the whole file, unless it has more than 2^31 bytes. The mark of UTF-8 that some editors put first is no
+    /// part of it.
     fn whole(&self) -> Result<Vec<u8>, Failure> {
-        let bytes = self.start(MOST + 1)?;
+        let mut bytes = self.start(MOST + 1)?;
         if bytes.len() as u64 > MOST {
             let error = io::Error::other(format!("it has more than {MOST} bytes"));
             return Err(Failure::File(self.clone(), error));
+        }
+        if bytes.starts_with(MARK) {
+            bytes.drain(..MARK.len());
         }
         Ok(bytes)
     }
@@ -82,9 +89,9 @@ impl Name {
         self.start(KEY_LIMIT as u64 + 1)
     }
 
-    /// The points that the file holds, one or more.
-    pub fn points(&self) -> Result<Vec<Point>, Failure> {
-        points::parse(&self.whole()?).map_err(|fault| self.fault(fault.line, fault.message))
+    /// The points of a field that the file holds, one or more.
+    pub fn points(&self, field: Field) -> Result<Vec<Point>, Failure> {
+        points::parse(&self.whole()?, field).map_err(|fault| self.fault(fault.line, fault.message))
     }
 
     /// The lines of the file with their numbers, blank ones aside.

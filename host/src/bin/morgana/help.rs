@@ -18,7 +18,8 @@ p = 2147483647.
   morgana show KEY
       Prints each record on a line: its offset in the file, its kind and its
       fields. Of a refused key it prints the records up to the one at fault,
-      which is marked with >, and then the refusal.
+      which is marked with >, and then the refusal; a key over 65536 bytes has
+      no such record.
 
   morgana evaluate KEY [--point FILE] [--quadratic]
       Evaluates the key at a random point (--random asks for the same), or at
@@ -38,10 +39,12 @@ p = 2147483647.
       given. Prints `same` or `different`, what that rests on, and then the
       points; for `different` the first point that shows it. With --quiet no
       points are printed.
-      Where OLD and NEW are folders, the files of the same path below them are
-      compared; with --pairs those on each line of FILE, which has an old and
-      a new file name with a tab or a space between. Each pair then has one
-      line; its points are printed with --json alone.
+      Where OLD and NEW are folders, all files of the same path below them are
+      compared. One that is no key is refused; one that only one folder has
+      fails, and so does a link to a folder. With --pairs the files on each
+      line of FILE are compared: an old and a new name, with a tab or a space
+      between, from the current folder on. Each pair then has one line; its
+      points are printed with --json alone.
 
   morgana --help, morgana COMMAND --help    Prints this page.
   morgana --version                         Prints the version.
@@ -52,23 +55,25 @@ Options
                so are A, B and C.
   --json       Prints answers as JSON, one object a line; JSON.md, which is
                installed in share/doc/morgana, describes them.
-  A value may stand behind its option or behind =, as in --points=3. A file
-  whose name begins with - goes behind --, as in: morgana check -- -key
+  An option's value is the next argument, or follows =, as in --points=3. A
+  file whose name begins with - goes after --, as in: morgana check -- -key
 
 What \"same\" means
   Two keys are the same where the dense matrices A, B and C of their last
   arrays are equal in every cell, modulo p. How the keys are made up of arrays
-  does not matter, and arrays that are never called do not count. The order of
-  constraints and of witness numbers does: keys whose rows or columns are
-  permuted are different. `different` is certain. `same` is certain where the
-  files are identical, and where the matrices have one place (no row bits and
-  no column bits); else it has the bound that is printed, for points drawn at
-  random once both keys are fixed. A bound below 1.0e-38 is printed as that.
+  does not matter, and arrays that the last one does not reach through calls do
+  not count. The order of constraints and of witness numbers does: keys whose
+  rows or columns are permuted are different. `different` is certain. `same` is
+  certain where the files are identical, and where the matrices have one place
+  (no row bits and no column bits); else it has the bound that is printed, for
+  points drawn at random once both keys are fixed. A bound below 1.0e-38 is
+  printed as that.
 
 Point file
   Two lines for each point, as evaluate and compare print them; their whole
-  output may be given, JSON too. Each line has a word and then the coordinates,
-  decimal numbers between spaces; a line without coordinates is the word alone.
+  output may be given where it has points, JSON too. Each line has a word and
+  then the coordinates, decimal numbers between spaces; a line without
+  coordinates is the word alone.
       rows 3 2147483646
       columns 4
   With --quadratic a coordinate is two numbers: `rows 3 2147483646` is one,

@@ -1,14 +1,18 @@
 //! Answers as lines of JSON, one object a line (docs/JSON.md).
 
 use crate::outcome::{About, Answer, Evaluation, Files, Outcome, Refused, Source, Tried, Verdict};
+use crate::output::Pieces;
+use crate::points::field_name;
 use crate::records::{Record, Untaken};
 use crate::show::{Entry, Line};
 use morgana::{Counts, Field, Point, Values};
+use std::iter;
 
-/// The lines of an answer.
-pub fn json(answer: &Answer) -> String {
+/// The lines of an answer, in pieces.
+pub fn json(answer: &Answer) -> Pieces<'_> {
     let open = || Object::of(answer);
-    match &answer.outcome {
+    let lines = match &answer.outcome {
+        Outcome::Compared(verdict, used) => return compared(open(), verdict, used),
         Outcome::Checked(length, counts) => checked(open().status("accepted"), *length, counts),
         Outcome::Shown(lines) => shown(open, lines) + &open().status("accepted").line(),
         Outcome::Evaluated(field, evaluation) => {
@@ -25,7 +29,6 @@ pub fn json(answer: &Answer) -> String {
             ];
             open().status("accepted").numbers(&numbers).line()
         }
-        Outcome::Compared(verdict, points) => compared(open(), verdict, points).line(),
         Outcome::Refused(lines, refused) => {
             shown(open, lines) + &refusal(open().status("refused"), refused)
         }
@@ -33,7 +36,8 @@ pub fn json(answer: &Answer) -> String {
             let message = failure.to_string();
             open().status("failed").string("message", &message).line()
         }
-    }
+    };
+    Box::new(iter::once(lines))
 }
 
 /// An object in the making: its text up to the last member.
@@ -196,22 +200,29 @@ fn evaluated(object: Object, field: Field, evaluation: &Evaluation) -> String {
         .line()
 }
 
-/// The name of a field.
-fn field_name(field: Field) -> &'static str {
-    match field {
-        Field::Prime => "p",
-        Field::Quadratic => "p^2",
-    }
-}
-
 /// An object with a point's numbers.
 fn with_point(object: Object, point: &Point) -> Object {
     let rows = object.value("rows", &list(&point.rows));
     rows.value("columns", &list(&point.columns))
 }
 
-/// The object of a comparison.
-fn compared(object: Object, verdict: &Verdict, points: &[Point]) -> Object {
+/// The line of a comparison, in pieces: the last member has the points.
+fn compared<'a>(object: Object, verdict: &Verdict, points: &'a [Point]) -> Pieces<'a> {
+    let object = with_verdict(object, verdict);
+    if points.is_empty() {
+        return Box::new(iter::once(object.line()));
+    }
+    let commas = iter::once("").chain(iter::repeat(","));
+    let points = commas.zip(points).map(|(comma, point)| {
+        let object = with_point(Object(String::new()), point);
+        format!("{comma}{}}}", object.0)
+    });
+    let start = iter::once(object.value("points", "[").0);
+    Box::new(start.chain(points).chain(iter::once("]}\n".to_owned())))
+}
+
+/// An object with what is found of two keys.
+fn with_verdict(object: Object, verdict: &Verdict) -> Object {
     let (object, tried) = match verdict {
         Verdict::Identical => {
             let object = object.status("same").truth("certain", true);
@@ -226,15 +237,7 @@ fn compared(object: Object, verdict: &Verdict, points: &[Point]) -> Object {
             (object.number("point", number), tried)
         }
     };
-    let object = with_tried(object, verdict, tried);
-    if points.is_empty() {
-        return object;
-    }
-    let points = points.iter().map(|point| {
-        let object = with_point(Object(String::new()), point);
-        object.0 + "}"
-    });
-    object.value("points", &list(points))
+    with_tried(object, verdict, tried)
 }
 
 /// An object with the points that were tried, and the bound on keys that differ where there is one.

@@ -18,12 +18,14 @@ mod progress;
 mod records;
 mod show;
 mod text;
+mod value;
 
 use arguments::{Command, Request};
 use compare::Manner;
 use files::Name;
 use outcome::{Failure, Files, Outcome, Status};
 use output::{fail, Output};
+use pairs::Pair;
 use progress::Progress;
 use std::env;
 use std::process::ExitCode;
@@ -120,7 +122,7 @@ fn compare(
 /// folders or of a list.
 fn compare_each(
     source: Files,
-    pairs: Result<Vec<(Name, Name)>, Failure>,
+    pairs: Result<Vec<Pair>, Failure>,
     manner: &Manner,
     output: &mut Output,
 ) -> Result<Status, Failure> {
@@ -128,14 +130,22 @@ fn compare_each(
         Ok(read) => read,
         Err(failure) => return output.only("compare", source, Err(failure)),
     };
+    let quiet = manner.quiet || !output.has_points_of_several();
+    let manner = Manner {
+        quiet,
+        ..manner.clone()
+    };
     let mut status = Status::Accepted;
     let mut progress = Progress::begin();
-    for ((old, new), number) in pairs.iter().zip(1..) {
-        progress.pair(number, pairs.len());
-        let outcome = compare::compare(old, new, manner, &given, &mut progress);
+    let count = pairs.len();
+    for (Pair { old, new, unread }, number) in pairs.into_iter().zip(1..) {
+        progress.pair(number, count);
+        let outcome = match unread {
+            Some(failure) => Err(failure),
+            None => compare::compare(&old, &new, &manner, &given, &mut progress),
+        };
         progress.clear();
-        let files = Files::Two(old.clone(), new.clone());
-        status = status.max(output.one_of_several("compare", files, outcome)?);
+        status = status.max(output.one_of_several("compare", Files::Two(old, new), outcome)?);
     }
     Ok(status)
 }

@@ -5,6 +5,10 @@ use crate::json;
 use crate::outcome::{Answer, Failure, Files, Outcome, Status};
 use crate::text;
 use std::io::{self, BufWriter, ErrorKind, Write};
+use std::iter;
+
+/// Text in pieces, so that many points need not stand in one.
+pub type Pieces<'a> = Box<dyn Iterator<Item = String> + 'a>;
 
 /// Standard output, for text or for lines of JSON.
 pub struct Output {
@@ -24,8 +28,13 @@ impl Output {
 
     /// Writes a page of text.
     pub fn page(&mut self, text: &str) -> Result<Status, Failure> {
-        self.write(text)?;
+        self.write(Box::new(iter::once(text.to_owned())))?;
         Ok(Status::Accepted)
+    }
+
+    /// Whether the points of one of several comparisons are written.
+    pub fn has_points_of_several(&self) -> bool {
+        self.json
     }
 
     /// Writes the only answer of a run. A failure is for standard error, and with JSON an object too.
@@ -70,7 +79,7 @@ impl Output {
             files,
             outcome,
         };
-        self.write(&match self.json {
+        self.write(match self.json {
             true => json::json(&answer),
             false => text::text(&answer, several),
         })?;
@@ -78,8 +87,8 @@ impl Output {
     }
 
     /// Writes text, and all that was written before it, to standard output.
-    fn write(&mut self, text: &str) -> Result<(), Failure> {
-        let written = self.out.write_all(text.as_bytes());
+    fn write(&mut self, mut text: Pieces) -> Result<(), Failure> {
+        let written = text.try_for_each(|piece| self.out.write_all(piece.as_bytes()));
         written
             .and_then(|()| self.out.flush())
             .map_err(Failure::Output)

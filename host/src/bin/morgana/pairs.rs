@@ -2,16 +2,27 @@
 
 use crate::files::Name;
 use crate::outcome::Failure;
-use std::collections::BTreeSet;
+use std::collections::BTreeMap;
 use std::ffi::OsStr;
 use std::fs;
 use std::os::unix::ffi::OsStrExt;
 use std::path::{Path, PathBuf};
 
+/// An old key and a new one.
+#[derive(Debug)]
+pub struct Pair {
+    /// The old key's file.
+    pub old: Name,
+    /// The new key's file.
+    pub new: Name,
+    /// Why what stands there is not read: it is a folder that cannot be.
+    pub unread: Option<Failure>,
+}
+
 /// The pairs of files with the same path below two folders; a file that only one of them has makes a pair too, which
-/// cannot be read.
-pub fn of_folders(old: &Path, new: &Path) -> Result<Vec<(Name, Name)>, Failure> {
-    let mut paths = BTreeSet::new();
+/// cannot be read, and so does a folder in them that cannot be read.
+pub fn of_folders(old: &Path, new: &Path) -> Result<Vec<Pair>, Failure> {
+    let mut paths = BTreeMap::new();
     for folder in [old, new] {
         gather(folder, Path::new(""), &mut paths)?;
     }
@@ -20,37 +31,45 @@ pub fn of_folders(old: &Path, new: &Path) -> Result<Vec<(Name, Name)>, Failure> 
             "there is no file in {old:?} or {new:?}"
         )));
     }
-    let pair = |path: &PathBuf| (Name::found(old.join(path)), Name::found(new.join(path)));
-    Ok(paths.iter().map(pair).collect())
+    let pair = |(path, unread)| Pair {
+        old: Name::found(old.join(&path)),
+        new: Name::found(new.join(&path)),
+        unread,
+    };
+    Ok(paths.into_iter().map(pair).collect())
 }
 
-/// Gathers the paths of the files below a folder, from that folder on. A folder in it that cannot be read is gathered as a
-/// file, which cannot be read either.
-fn gather(folder: &Path, below: &Path, paths: &mut BTreeSet<PathBuf>) -> Result<(), Failure> {
+/// The paths of files below a folder, each with why it is not read where it is that of a folder.
+type Paths = BTreeMap<PathBuf, Option<Failure>>;
+
+/// Gathers the paths of the files below a folder, from that folder on, and those of the folders in it that cannot be read.
+fn gather(folder: &Path, below: &Path, paths: &mut Paths) -> Result<(), Failure> {
     let path = folder.join(below);
     let unread = |error| Failure::File(Name::from(&path), error);
     for entry in fs::read_dir(&path).map_err(unread)? {
         let entry = entry.map_err(unread)?;
         let below = below.join(entry.file_name());
-        let inside = entry.file_type().map_err(unread)?.is_dir();
-        if !inside || gather(folder, &below, paths).is_err() {
-            paths.insert(below);
+        if !entry.file_type().map_err(unread)?.is_dir() {
+            paths.entry(below).or_insert(None);
+        } else if let Err(failure) = gather(folder, &below, paths) {
+            paths.insert(below, Some(failure));
         }
     }
     Ok(())
 }
 
 /// The pairs of a list: each line has an old file and a new one, with a tab or other white space between.
-pub fn of_list(list: &Name) -> Result<Vec<(Name, Name)>, Failure> {
+pub fn of_list(list: &Name) -> Result<Vec<Pair>, Failure> {
     let mut pairs = Vec::new();
     for (number, line) in list.lines()? {
         let fault = |message: &str| list.fault(number, message.to_owned());
-        let pair = two(&line)
+        let (old, new) = two(&line)
             .ok_or_else(|| fault("does not have two file names, with a tab or a space between"))?;
-        if pair.0.is_standard_input() || pair.1.is_standard_input() {
+        if old.is_standard_input() || new.is_standard_input() {
             return Err(fault("standard input (-) is no file of a list"));
         }
-        pairs.push(pair);
+        let unread = None;
+        pairs.push(Pair { old, new, unread });
     }
     if pairs.is_empty() {
         return Err(Failure::NoPair(format!("there is no pair in {list}")));

@@ -1,7 +1,8 @@
 //! Points as text: the two lines that write one, and the points in what evaluate and compare print.
 
 use crate::decimal::decimal;
-use morgana::Point;
+use crate::value::Value;
+use morgana::{Field, Point};
 use std::fmt::Write;
 
 /// How the lines begin that evaluate and compare print beside the points, but for those of the arrays.
@@ -41,9 +42,9 @@ pub fn text(point: &Point) -> String {
     text
 }
 
-/// The points in a text, one or more: pairs of lines `rows ...` and `columns ...`, and the points in lines of JSON.
-/// Blank lines are skipped, and so is what evaluate and compare print beside the points.
-pub fn parse(text: &[u8]) -> Result<Vec<Point>, Fault> {
+/// The points of a field in a text, one or more: pairs of lines `rows ...` and `columns ...`, and the points in lines of
+/// JSON. Blank lines are skipped, and so is what evaluate and compare print beside the points.
+pub fn parse(text: &[u8], field: Field) -> Result<Vec<Point>, Fault> {
     let mut points = Vec::new();
     let mut rows = None;
     let mut last = 1;
@@ -60,7 +61,7 @@ pub fn parse(text: &[u8]) -> Result<Vec<Point>, Fault> {
                 columns: coordinates(text).map_err(fault)?,
             }),
             (_, Some(_)) => return Err(fault(r#"does not begin with "columns""#.to_owned())),
-            _ if text.starts_with('{') => points.extend(of_json(text).map_err(fault)?),
+            _ if text.starts_with('{') => points.extend(of_json(text, field).map_err(fault)?),
             _ if !is_other(text) => return Err(fault(r#"does not begin with "rows""#.to_owned())),
             _ => {}
         }
@@ -87,56 +88,69 @@ fn coordinates(text: &str) -> Result<Vec<u32>, String> {
     text.split_ascii_whitespace().skip(1).map(number).collect()
 }
 
-/// The number that a word writes.
+/// The number that a word writes. What is said of a long word that is none quotes its start.
 fn number(word: &str) -> Result<u32, String> {
     let start: String = word.chars().take(20).collect();
-    decimal(word).ok_or_else(|| format!("{start:?} is not a number from 0 to 4294967295"))
+    let more = if start.len() < word.len() { ".." } else { "" };
+    decimal(word).ok_or_else(|| format!("{start:?}{more} is not a number from 0 to 4294967295"))
 }
 
-/// The points in an object of JSON: each `"rows":[...],"columns":[...]`. In a string a quotation mark stands behind a
-/// backslash, so that no file name is taken for one. An object without points must be one that the program prints.
-fn of_json(text: &str) -> Result<Vec<Point>, String> {
-    let text = compact(text).ok_or("an object of JSON has no end")?;
-    let mut points = Vec::new();
-    let mut rest = text.as_str();
-    while let Some((_, behind)) = rest.split_once(r#""rows":["#) {
-        let (rows, behind) = list(behind)?;
-        let behind = behind.strip_prefix(r#","columns":["#);
-        let (columns, behind) = list(behind.ok_or("columns do not follow the rows")?)?;
-        points.push(Point { rows, columns });
-        rest = behind;
-    }
-    match points.is_empty() && !text.contains(r#""command":"#) {
-        true => Err("an object of JSON has no rows".to_owned()),
-        false => Ok(points),
+/// The points of a field in an object of JSON: those of its member `points`, or the one that its own `rows` and `columns`
+/// make. An object without points must be one that the program prints.
+fn of_json(text: &str, field: Field) -> Result<Vec<Point>, String> {
+    let object = Value::read(text)?;
+    same_field(&object, field)?;
+    let is_list = |name| matches!(object.member(name), Some(Value::List(_)));
+    match object.member("points") {
+        Some(Value::List(points)) => points.iter().map(of_object).collect(),
+        Some(_) => Err("points is no list".to_owned()),
+        None if is_list("rows") || is_list("columns") => Ok(vec![of_object(&object)?]),
+        None if object.member("command").is_some() => Ok(Vec::new()),
+        None => Err("an object of JSON has no rows".to_owned()),
     }
 }
 
-/// An object of JSON without the white space between its parts, or none where it has no end.
-fn compact(text: &str) -> Option<String> {
-    let (mut inside, mut escaped, mut open) = (false, false, 0);
-    let mut kept = String::new();
-    for character in text.chars() {
-        if inside || !character.is_ascii_whitespace() {
-            kept.push(character);
-        }
-        match character {
-            _ if escaped => escaped = false,
-            '\\' if inside => escaped = true,
-            '"' => inside = !inside,
-            '{' | '[' if !inside => open += 1,
-            '}' | ']' if !inside => open -= 1,
-            _ => {}
-        }
+/// Wants an object that names the field of its points to name this one.
+fn same_field(object: &Value, field: Field) -> Result<(), String> {
+    let Some(named) = object.member("field") else {
+        return Ok(());
+    };
+    let wrong = match field {
+        Field::Prime => "a point over p² goes with --quadratic",
+        Field::Quadratic => "a point over p goes without --quadratic",
+    };
+    match *named == Value::Text(field_name(field)) {
+        true => Ok(()),
+        false => Err(wrong.to_owned()),
     }
-    (open == 0 && !inside).then_some(kept)
 }
 
-/// The numbers of a list up to its bracket, and what stands behind that.
-fn list(text: &str) -> Result<(Vec<u32>, &str), String> {
-    let (numbers, behind) = text.split_once(']').ok_or("a list has no end")?;
-    let words = numbers.split(',').filter(|_| !numbers.is_empty());
-    Ok((words.map(number).collect::<Result<_, _>>()?, behind))
+/// The name of a field in JSON.
+pub fn field_name(field: Field) -> &'static str {
+    match field {
+        Field::Prime => "p",
+        Field::Quadratic => "p^2",
+    }
+}
+
+/// The point that the members `rows` and `columns` of an object make.
+fn of_object(object: &Value) -> Result<Point, String> {
+    let numbers = |name: &str| match object.member(name) {
+        Some(Value::List(numbers)) => numbers.iter().map(of_value).collect(),
+        _ => Err(format!("a point of JSON has no list of {name}")),
+    };
+    Ok(Point {
+        rows: numbers("rows")?,
+        columns: numbers("columns")?,
+    })
+}
+
+/// The number that a value is.
+fn of_value(value: &Value) -> Result<u32, String> {
+    match value {
+        Value::Number(digits) => number(digits),
+        _ => Err("a coordinate of JSON is no number".to_owned()),
+    }
 }
 
 #[cfg(test)]
@@ -150,6 +164,10 @@ mod tests {
         }
     }
 
+    fn read(text: &str) -> Result<Vec<Point>, Fault> {
+        parse(text.as_bytes(), Field::Prime)
+    }
+
     #[test]
     fn what_is_printed_can_be_read() {
         for (point, written) in [
@@ -161,41 +179,78 @@ mod tests {
             ),
         ] {
             assert_eq!(text(&point), written);
-            assert_eq!(parse(written.as_bytes()), Ok(vec![point]));
+            assert_eq!(read(written), Ok(vec![point]));
         }
     }
 
     #[test]
     fn white_space_and_blank_lines_are_tolerated() {
-        let text = b"\n \t\r\n  rows\t3   5 \r\n\ncolumns 4\n\n  ";
-        assert_eq!(parse(text), Ok(vec![point(&[3, 5], &[4])]));
+        let text = "\n \t\r\n  rows\t3   5 \r\n\ncolumns 4\n\n  ";
+        assert_eq!(read(text), Ok(vec![point(&[3, 5], &[4])]));
     }
 
     #[test]
     fn several_points_and_what_stands_beside_them_are_read() {
-        let text = b"same\nkeys that differ would pass with probability at most 1.0e-38 (m = 2, 9 points)\n\
+        let text = "same\nkeys that differ would pass with probability at most 1.0e-38 (m = 2, 9 points)\n\
             rows 1\ncolumns 2\n0 20 28 0\nA 1 B 2 C 3\nrows 3\ncolumns 4\n";
         let wanted = vec![point(&[1], &[2]), point(&[3], &[4])];
-        assert_eq!(parse(text), Ok(wanted));
+        assert_eq!(read(text), Ok(wanted));
     }
 
     #[test]
     fn lines_of_json_are_read() {
-        let text = br#"{"file":"\"rows\":[9],","points":[{"rows":[1],"columns":[2]},{"rows":[],"columns":[3,4]}]}
+        let text = r#"{"file":"\"rows\":[9],","points":[{"rows":[1],"columns":[2]},{"rows":[],"columns":[3,4]}]}
 { "rows" : [ 5 , 6 ], "columns" : [ ] }
+{"columns":[8],"rows":[7]}
+{"command":"check","rows":1,"columns":1}
 {"command":"compare","old":"a b","status":"refused"}"#;
-        let wanted = vec![point(&[1], &[2]), point(&[], &[3, 4]), point(&[5, 6], &[])];
-        assert_eq!(parse(text), Ok(wanted));
+        let wanted = [
+            (&[1][..], &[2][..]),
+            (&[], &[3, 4]),
+            (&[5, 6], &[]),
+            (&[7], &[8]),
+        ];
+        let wanted = wanted.map(|(rows, columns)| point(rows, columns));
+        assert_eq!(read(text), Ok(wanted.to_vec()));
+    }
+
+    #[test]
+    fn json_that_has_not_whole_points_is_a_fault() {
+        let good = r#"{"rows":[3],"columns":[4]}"#;
         for text in [
             r#"{"rows":[1"#,
             r#"{"points":[{"rows":[1],"columns":[2]}"#,
+            r#"{"points":[{"Rows":[1],"columns":[2]},{"rows":[3],"columns":[4]}]}"#,
+            r#"{"points":{"rows":[1],"columns":[2]}}"#,
             r#"{"Rows":[1],"columns":[2]}"#,
-            r#"{"columns":[2],"rows":[1]}"#,
+            r#"{"command":"evaluate","Rows":[1],"columns":[2]}"#,
             r#"{"rows":[1],"column":[2]}"#,
+            r#"{"rows":[1],"columns":[2],"rows":[3]}"#,
+            r#"{"rows":1,"columns":1}"#,
             r#"{"rows":[1,],"columns":[2]}"#,
+            r#"{"rows":[1 2],"columns":[4]}"#,
+            r#"{"rows":[1],"columns":[4]} rows 9"#,
             r#"{"rows":[-1],"columns":[2]}"#,
+            r#"{"rows":[1.0],"columns":[2]}"#,
+            r#"{"rows":["1"],"columns":[2]}"#,
         ] {
-            assert_eq!(parse(text.as_bytes()).unwrap_err().line, 1, "{text}");
+            assert_eq!(read(text).unwrap_err().line, 1, "{text}");
+            assert_eq!(read(&format!("{good}\n{text}\n")).unwrap_err().line, 2);
+        }
+    }
+
+    #[test]
+    fn json_names_the_field_of_its_points() {
+        let named = |name| format!(r#"{{"field":"{name}","rows":[1],"columns":[2]}}"#);
+        for (field, other) in [
+            (Field::Prime, Field::Quadratic),
+            (Field::Quadratic, Field::Prime),
+        ] {
+            let text = named(field_name(field));
+            let wanted = vec![point(&[1], &[2])];
+            assert_eq!(parse(text.as_bytes(), field), Ok(wanted));
+            let fault = parse(text.as_bytes(), other).unwrap_err();
+            assert!(fault.message.contains("--quadratic"), "{}", fault.message);
         }
     }
 
@@ -229,12 +284,12 @@ mod tests {
             ),
         ] {
             let message = message.to_owned();
-            assert_eq!(
-                parse(text.as_bytes()),
-                Err(Fault { line, message }),
-                "{text:?}"
-            );
+            assert_eq!(read(text), Err(Fault { line, message }), "{text:?}");
         }
-        assert_eq!(parse(b"rows \xff\ncolumns\n").unwrap_err().line, 1);
+        let fault = parse(b"rows \xff\ncolumns\n", Field::Prime).unwrap_err();
+        assert_eq!(fault.line, 1);
+        let long = format!("rows {}\n", "7".repeat(30));
+        let message = read(&long).unwrap_err().message;
+        assert!(message.starts_with(&format!("{:?}.. is not", "7".repeat(20))));
     }
 }

@@ -1,18 +1,20 @@
 //! Answers as lines for people.
 
 use crate::outcome::{About, Answer, Evaluation, Files, Outcome, Source, Tried, Verdict};
+use crate::output::Pieces;
 use crate::points;
 use crate::show::Line;
-use morgana::{Counts, Field, Point, Values};
+use morgana::{Counts, Field, Values};
+use std::iter;
 
-/// The lines of an answer; one of several is a line that names its files.
-pub fn text(answer: &Answer, several: bool) -> String {
+/// The lines of an answer, in pieces; one of several is a line that names its files.
+pub fn text(answer: &Answer, several: bool) -> Pieces<'_> {
     let files = match (&answer.files, several) {
         (_, false) => String::new(),
         (Files::One(file), true) => format!("; {file}"),
         (Files::Two(old, new), true) => format!(" {old} {new}"),
     };
-    match &answer.outcome {
+    let lines = match &answer.outcome {
         Outcome::Checked(length, counts) => format!("{}{files}\n", checked(*length, counts)),
         Outcome::Shown(lines) => shown(lines),
         Outcome::Evaluated(_, evaluation) => evaluated(evaluation),
@@ -21,22 +23,29 @@ pub fn text(answer: &Answer, several: bool) -> String {
             format!("{}{files}; {}\n", word(verdict), in_short(verdict))
         }
         Outcome::Compared(verdict, used) => {
-            format!(
-                "{}\n{}\n{}",
-                word(verdict),
-                reason(verdict),
-                points_text(used)
-            )
+            let verdict = format!("{}\n{}\n", word(verdict), reason(verdict));
+            return Box::new(iter::once(verdict).chain(used.iter().map(points::text)));
         }
-        // The refusal of a point names no key, so that of several pairs the line names the keys.
-        Outcome::Refused(lines, refused) => match refused.about {
-            About::Point(..) if several => format!("{refused}; keys{files}\n"),
+        // The refusal of a point names no key, and that of one key of a pair not the other.
+        Outcome::Refused(lines, refused) => match (&refused.about, several) {
+            (About::Point(..), _) | (About::Old(_) | About::New(_), true) => {
+                format!("{refused}; {}\n", keys(&answer.files))
+            }
             _ => format!("{}{refused}\n", shown(lines)),
         },
         Outcome::Failed(failure) => match answer.files {
             Files::One(_) => format!("failed; {failure}\n"),
             Files::Two(..) => format!("failed{files}; {failure}\n"),
         },
+    };
+    Box::new(iter::once(lines))
+}
+
+/// The keys that an answer is about.
+fn keys(files: &Files) -> String {
+    match files {
+        Files::One(file) => format!("key {file}"),
+        Files::Two(old, new) => format!("keys {old} {new}"),
     }
 }
 
@@ -81,11 +90,6 @@ fn evaluated(evaluation: &Evaluation) -> String {
 /// Numbers, each behind a space.
 fn numbers(numbers: &[u32]) -> String {
     numbers.iter().map(|number| format!(" {number}")).collect()
-}
-
-/// The lines of some points.
-fn points_text(points: &[Point]) -> String {
-    points.iter().map(points::text).collect()
 }
 
 /// The verdict in a word.
@@ -152,7 +156,7 @@ fn points_count(count: u32) -> String {
 mod tests {
     use super::*;
     use crate::files::Name;
-    use morgana::Likelihood;
+    use morgana::{Likelihood, Point};
 
     /// An answer of compare with these points.
     fn answer(verdict: Verdict, used: &[Point]) -> Answer {
@@ -183,13 +187,15 @@ mod tests {
                         },
                     };
                     for verdict in [Verdict::Same(tried()), Verdict::Different(1, tried())] {
-                        let text = text(&answer(verdict, &used), false);
-                        assert_eq!(points::parse(text.as_bytes()), Ok(used.to_vec()), "{text}");
+                        let text: String = text(&answer(verdict, &used), false).collect();
+                        let read = points::parse(text.as_bytes(), field);
+                        assert_eq!(read, Ok(used.to_vec()), "{text}");
                     }
                 }
             }
         }
-        let identical = text(&answer(Verdict::Identical, &used), false);
-        assert_eq!(points::parse(identical.as_bytes()), Ok(used.to_vec()));
+        let identical: String = text(&answer(Verdict::Identical, &used), false).collect();
+        let read = points::parse(identical.as_bytes(), Field::Prime);
+        assert_eq!(read, Ok(used.to_vec()));
     }
 }
