@@ -48,11 +48,11 @@ fn a_closed_pipe_ends_the_program_quietly() {
     }
 }
 
-/// Runs the program in a shell, with these arguments and redirections.
-fn in_shell(folder: &Folder, line: &str) -> Ran {
+/// Runs the program in a shell, with these arguments and redirections, behind a command of the shell's.
+fn in_shell(folder: &Folder, before: &str, line: &str) -> Ran {
     let program = folder.program::<&str>(&[]);
     let mut shell = Command::new("sh");
-    shell.args(["-c", &format!("exec \"$0\" {line}")]);
+    shell.args(["-c", &format!("{before}; exec \"$0\" {line}")]);
     shell.arg(program.get_program());
     let path = program.get_current_dir().expect("a folder");
     Ran::of(shell.current_dir(path).output().expect("sh runs"))
@@ -67,7 +67,7 @@ fn a_closed_output_is_said() {
         (">/dev/null", 0),
         ("1<>/dev/null", 0),
     ] {
-        let ran = in_shell(&folder, &format!("check sample {redirection}"));
+        let ran = in_shell(&folder, ":", &format!("check sample {redirection}"));
         match status {
             0 => ran.answers(0, ""),
             _ => ran.fails(&["cannot write to standard output: it is closed"]),
@@ -78,12 +78,7 @@ fn a_closed_output_is_said() {
 #[test]
 fn a_file_that_may_not_grow_is_said() {
     let folder = Folder::new("limit", &[("sample", &sample())]);
-    let program = folder.program::<&str>(&[]);
-    let mut shell = Command::new("sh");
-    shell.args(["-c", "ulimit -f 0; exec \"$0\" check sample > out"]);
-    shell.arg(program.get_program());
-    let path = program.get_current_dir().expect("a folder");
-    let ran = Ran::of(shell.current_dir(path).output().expect("sh runs"));
+    let ran = in_shell(&folder, "ulimit -f 0", "check sample > out");
     ran.fails(&["cannot write to standard output: File too large"]);
 }
 
@@ -96,7 +91,7 @@ fn a_closed_input_is_no_empty_key() {
         ("</dev/null", 2),
         ("<sample", 0),
     ] {
-        let ran = in_shell(&folder, &format!("check - {redirection}"));
+        let ran = in_shell(&folder, ":", &format!("check - {redirection}"));
         match status {
             3 => ran.fails(&["cannot read standard input: it is closed"]),
             _ => ran.status(status),
