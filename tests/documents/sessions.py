@@ -68,7 +68,7 @@ def quick(command):
     """A command as it is run: one that runs tests takes few cases, and prints where it fails."""
     if not TESTS.match(command):
         return command
-    return f"{CASES.sub('4000', command)} > tests.out 2>&1 || cat tests.out"
+    return f"{CASES.sub('4000', command)} > tests.out 2>&1 || {{ cat tests.out; echo failed; }}"
 
 
 def comparable(command, lines):

@@ -71,10 +71,13 @@ def hold_stage(folder, version):
 
 
 def hold_unprinted(folder, version):
-    """An installation whose output cannot be written is whole all the same."""
+    """An installation whose output cannot be written, or is closed, is whole all the same."""
     with open("/dev/full", "w") as full:
         ended = run(*command("install", {"PREFIX": folder}), stdout=full)
     hold("what is said of it", True, ended.status != 0 and "it is done, but" in ended.errors)
+    hold("files below PREFIX", wanted_files(version), files_of(folder))
+    closed = run("sh", "-c", "tools/install --remove >&- && tools/install >&-", PREFIX=folder)
+    hold("status and errors where the output is closed", (0, ""), (closed.status, closed.errors))
     hold("files below PREFIX", wanted_files(version), files_of(folder))
 
 
@@ -113,14 +116,16 @@ def hold_halves(folder):
     os.makedirs(f"{prefix}/lib/libmorgana.so/held")
     make_refused("install", "6 files are in their places", PREFIX=prefix)
     hold("files of the half", 6, len(files_of(prefix)))
-    for other, text in (("python3.1", f'\nFOLDER = "{prefix}/lib"\n'), ("python3.2", "another module\n")):
-        os.makedirs(f"{prefix}/lib/{other}/site-packages/__pycache__")
+    ours, foreign = f'\nFOLDER = "{prefix}/lib"\n', "another module\n"
+    folders = {"lib/python3.1/site-packages": ours, "lib/python3.2/site-packages": foreign, PYTHON: foreign}
+    for other, text in folders.items():
+        os.makedirs(f"{prefix}/{other}/__pycache__")
         for name in ("morgana.py", "__pycache__/morgana.cpython-31.opt-1.pyc"):
-            with open(f"{prefix}/lib/{other}/site-packages/{name}", "w") as file:
+            with open(f"{prefix}/{other}/{name}", "w") as file:
                 file.write(text)
     make_refused("uninstall", "libmorgana.so", PREFIX=prefix)
-    left = {name for name in files_of(prefix) if "python3.2" not in name}
-    hold("files left of the half", (set(), 2), (left, len(files_of(prefix))))
+    left = [name for name in files_of(prefix) if folders.get(name.split("/__py")[0].split("/morgana")[0]) != foreign]
+    hold("files left of the half", ([], 4), (left, len(files_of(prefix))))
 
 
 def hold_all():

@@ -229,10 +229,12 @@ impl Given {
 /// What is wrong with an option that there is not.
 fn no_option(option: &OsStr) -> String {
     let digits = option.as_bytes()[1..].iter().all(u8::is_ascii_digit);
-    match digits {
-        true => format!("{option:?} is negative, and no number here is"),
-        false => format!("there is no option {option:?} here; a file of that name goes after --"),
-    }
+    let negative = if digits {
+        ", and no number is negative"
+    } else {
+        ""
+    };
+    format!("there is no option {option:?} here{negative}; a file of that name goes after --")
 }
 
 /// An argument as an option and the value behind its =, if it has one.

@@ -268,6 +268,6 @@ fn an_option_belongs_to_its_command() {
     ] {
         assert!(fault(words).starts_with("there is no option"), "{words:?}");
     }
-    let negative = fault(&["cell", "k", "-1", "0"]);
-    assert_eq!(negative, "\"-1\" is negative, and no number here is");
+    let wanted = "there is no option \"-1\" here, and no number is negative; a file of that name goes after --";
+    assert_eq!(fault(&["cell", "k", "-1", "0"]), wanted);
 }

@@ -1,20 +1,22 @@
 //! Points as text: the two lines that write one, and the points in what evaluate and compare print.
 
 use crate::decimal::decimal;
-use crate::value::Value;
+use crate::value::{Member, Value};
 use morgana::{Field, Point};
 use std::fmt::Write;
 
-/// How the lines begin that evaluate and compare print beside the points, but for those of the arrays.
-const OTHERS: [&str; 10] = [
-    "same",
-    "different",
+/// The verdicts that compare prints as lines.
+const VERDICTS: [&str; 2] = ["same", "different"];
+
+/// How the other lines begin that evaluate and compare print beside the points, but for those of values.
+const STARTS: [&str; 9] = [
+    "same \"",
+    "different \"",
     "keys that differ would pass",
     "the files are identical",
     "the matrices have one place",
     "at point ",
     "at the ",
-    "A ",
     "refused ",
     "failed",
 ];
@@ -77,10 +79,12 @@ pub fn parse(text: &[u8], field: Field) -> Result<Vec<Point>, Fault> {
     }
 }
 
-/// Whether a line is one that evaluate or compare prints beside a point.
+/// Whether a line is one that evaluate or compare prints beside a point. None of them ends as an object of JSON does, which
+/// may stand behind one where the end of the line was lost.
 fn is_other(text: &str) -> bool {
-    let of_array = text.split(' ').all(|word| decimal(word).is_some());
-    of_array || OTHERS.iter().any(|start| text.starts_with(start))
+    let of_values = |word: &str| ["A", "B", "C"].contains(&word) || decimal(word).is_some();
+    let begins = STARTS.iter().any(|start| text.starts_with(start));
+    text.split(' ').all(of_values) || VERDICTS.contains(&text) || begins && !text.ends_with('}')
 }
 
 /// The numbers of a line behind its first word.
@@ -96,33 +100,41 @@ fn number(word: &str) -> Result<u32, String> {
 }
 
 /// The points of a field in an object of JSON: those of its member `points`, or the one that its own `rows` and `columns`
-/// make. An object without points must be one that the program prints.
+/// make. An object without points must be one that the program prints, and then no member is a list or an object.
 fn of_json(text: &str, field: Field) -> Result<Vec<Point>, String> {
-    let object = Value::read(text)?;
-    same_field(&object, field)?;
-    let is_list = |name| matches!(object.member(name), Some(Value::List(_)));
-    match object.member("points") {
-        Some(Value::List(points)) => points.iter().map(of_object).collect(),
+    let members = Value::read(text)?.members();
+    same_field(member(&members, "field"), field)?;
+    let has_parts = |value| matches!(value, Value::List(_) | Value::Object(_));
+    let own = ["rows", "columns"].map(|name| member(&members, name).is_some_and(has_parts));
+    let own = own.contains(&true);
+    match member(&members, "points") {
+        Some(Value::List(_)) if own => Err("points stand beside rows or columns".to_owned()),
+        Some(list @ Value::List(_)) => list.items().into_iter().map(of_object).collect(),
         Some(_) => Err("points is no list".to_owned()),
-        None if is_list("rows") || is_list("columns") => Ok(vec![of_object(&object)?]),
-        None if object.member("command").is_some() => Ok(Vec::new()),
-        None => Err("an object of JSON has no rows".to_owned()),
+        None if own => Ok(vec![of_members(&members)?]),
+        None => match members.iter().find(|(_, value)| has_parts(*value)) {
+            Some((name, _)) => Err(format!("{name:?} is neither points nor rows and columns")),
+            None if member(&members, "command").is_some() => Ok(Vec::new()),
+            None => Err("an object of JSON has no rows".to_owned()),
+        },
     }
 }
 
-/// Wants an object that names the field of its points to name this one.
-fn same_field(object: &Value, field: Field) -> Result<(), String> {
-    let Some(named) = object.member("field") else {
-        return Ok(());
+/// Wants the field that an object names for its points to be this one.
+fn same_field(given: Option<Value>, field: Field) -> Result<(), String> {
+    let named = |name, field| name == field_name(field);
+    let wrong = match given {
+        None => return Ok(()),
+        Some(Value::Text(name)) if named(name, field) => return Ok(()),
+        Some(Value::Text(name)) if named(name, Field::Quadratic) => {
+            "a point over p² goes with --quadratic"
+        }
+        Some(Value::Text(name)) if named(name, Field::Prime) => {
+            "a point over p goes without --quadratic"
+        }
+        Some(_) => r#"a field is "p" or "p^2""#,
     };
-    let wrong = match field {
-        Field::Prime => "a point over p² goes with --quadratic",
-        Field::Quadratic => "a point over p goes without --quadratic",
-    };
-    match *named == Value::Text(field_name(field)) {
-        true => Ok(()),
-        false => Err(wrong.to_owned()),
-    }
+    Err(wrong.to_owned())
 }
 
 /// The name of a field in JSON.
@@ -133,10 +145,15 @@ pub fn field_name(field: Field) -> &'static str {
     }
 }
 
-/// The point that the members `rows` and `columns` of an object make.
-fn of_object(object: &Value) -> Result<Point, String> {
-    let numbers = |name: &str| match object.member(name) {
-        Some(Value::List(numbers)) => numbers.iter().map(of_value).collect(),
+/// The point that an object is.
+fn of_object(object: Value) -> Result<Point, String> {
+    of_members(&object.members())
+}
+
+/// The point that the members `rows` and `columns` make.
+fn of_members(members: &[Member]) -> Result<Point, String> {
+    let numbers = |name: &str| match member(members, name) {
+        Some(list @ Value::List(_)) => list.items().into_iter().map(of_value).collect(),
         _ => Err(format!("a point of JSON has no list of {name}")),
     };
     Ok(Point {
@@ -145,8 +162,14 @@ fn of_object(object: &Value) -> Result<Point, String> {
     })
 }
 
+/// The value of the member with this name, if there is one.
+fn member<'a>(members: &[Member<'a>], name: &str) -> Option<Value<'a>> {
+    let found = members.iter().find(|(other, _)| *other == name);
+    found.map(|(_, value)| *value)
+}
+
 /// The number that a value is.
-fn of_value(value: &Value) -> Result<u32, String> {
+fn of_value(value: Value) -> Result<u32, String> {
     match value {
         Value::Number(digits) => number(digits),
         _ => Err("a coordinate of JSON is no number".to_owned()),
@@ -233,6 +256,19 @@ mod tests {
             r#"{"rows":[-1],"columns":[2]}"#,
             r#"{"rows":[1.0],"columns":[2]}"#,
             r#"{"rows":["1"],"columns":[2]}"#,
+            r#"{"rows":[01],"columns":[2]}"#,
+            r#"{"command":"compare","field":"p","Points":[{"rows":[1],"columns":[2]}]}"#,
+            r#"{"command":"compare","po\u0069nts":[{"rows":[1],"columns":[2]}]}"#,
+            r#"{"points":[{"rows":[1],"columns":[2]}],"rows":[7],"columns":[8]}"#,
+            r#"{"points":[],"columns":[8]}"#,
+            r#"{"points":[[1],[2]]}"#,
+            r#"{"field":"q","rows":[1],"columns":[2]}"#,
+            r#"{"field":null,"rows":[1],"columns":[2]}"#,
+            r#"A 1 B 2 C 3{"rows":[1],"columns":[2]}"#,
+            r#"same{"rows":[1],"columns":[2]}"#,
+            r#"at point 1 of 2{"rows":[1],"columns":[2]}"#,
+            "A 1 B 2 C 3rows 4\ncolumns 5",
+            "samerows 4\ncolumns 5",
         ] {
             assert_eq!(read(text).unwrap_err().line, 1, "{text}");
             assert_eq!(read(&format!("{good}\n{text}\n")).unwrap_err().line, 2);
