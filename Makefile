@@ -20,6 +20,7 @@ bench:
 fmt:
 	@rt fmt
 	@cd host && cargo fmt
+	@cd examples/rust && cargo fmt
 
 # Installs what people use below PREFIX (/usr/local), or removes it again. DESTDIR is put before
 # each path, and PYTHONDIR is the folder of the Python module.

@@ -3,9 +3,13 @@
 import os
 import tempfile
 
-from .commands import Failed, hold, printed, run
+from .commands import ROOT, Failed, hold, printed, run
 from .places import PYTHON, closed_folders, files_of, files_with, unlike_sources, wanted_files
 from .uses import hold_c, hold_library, hold_package, hold_programs, hold_python, hold_readme, written_keys
+
+
+# The files that a Python module has, with what Python has compiled from it.
+MODULE = ("morgana.py", "__pycache__/morgana.cpython-31.opt-1.pyc")
 
 
 def command(target, variables):
@@ -72,13 +76,14 @@ def hold_stage(folder, version):
 
 def hold_unprinted(folder, version):
     """An installation whose output cannot be written, or is closed, is whole all the same."""
+    prefix = f"{folder}/unprinted"
     with open("/dev/full", "w") as full:
-        ended = run(*command("install", {"PREFIX": folder}), stdout=full)
+        ended = run(*command("install", {"PREFIX": prefix}), stdout=full)
     hold("what is said of it", True, ended.status != 0 and "it is done, but" in ended.errors)
-    hold("files below PREFIX", wanted_files(version), files_of(folder))
-    closed = run("sh", "-c", "tools/install --remove >&- && tools/install >&-", PREFIX=folder)
+    hold("files below PREFIX", wanted_files(version), files_of(prefix))
+    closed = run("sh", "-c", "tools/install --remove >&- && tools/install >&-", PREFIX=prefix)
     hold("status and errors where the output is closed", (0, ""), (closed.status, closed.errors))
-    hold("files below PREFIX", wanted_files(version), files_of(folder))
+    hold("files below PREFIX", wanted_files(version), files_of(prefix))
 
 
 def hold_line(path, wanted):
@@ -100,7 +105,8 @@ def hold_refusals(folder):
         make_refused(target, "PREFIX must have only", PREFIX="/two words", **stage)
         given = {"PREFIX": "/here", "PYTHONDIR": "there"}
         make_refused(target, "PYTHONDIR must be an absolute path", **given, **stage)
-        make_refused(target, "DESTDIR must be an absolute path", PREFIX="/here", DESTDIR="there")
+        relative = os.path.relpath(stage["DESTDIR"], ROOT)
+        make_refused(target, "DESTDIR must be an absolute path", PREFIX="/here", DESTDIR=relative)
     make_refused("install", "Not a directory", PREFIX=blocked)
     os.makedirs(f"{folder}/taken/bin/morgana")
     make_refused("install", "Is a directory", PREFIX=f"{folder}/taken")
@@ -116,16 +122,22 @@ def hold_halves(folder):
     os.makedirs(f"{prefix}/lib/libmorgana.so/held")
     make_refused("install", "6 files are in their places", PREFIX=prefix)
     hold("files of the half", 6, len(files_of(prefix)))
-    ours, foreign = f'\nFOLDER = "{prefix}/lib"\n', "another module\n"
-    folders = {"lib/python3.1/site-packages": ours, "lib/python3.2/site-packages": foreign, PYTHON: foreign}
-    for other, text in folders.items():
-        os.makedirs(f"{prefix}/{other}/__pycache__")
-        for name in ("morgana.py", "__pycache__/morgana.cpython-31.opt-1.pyc"):
-            with open(f"{prefix}/{other}/{name}", "w") as file:
-                file.write(text)
+    other = "lib/python3.{}/site-packages"
+    written_module(f"{prefix}/{other.format(1)}", f'\nFOLDER = "{prefix}/lib"\n')
+    foreign = [PYTHON, other.format(2)]
+    for place in foreign:
+        written_module(f"{prefix}/{place}", "another module\n")
     make_refused("uninstall", "libmorgana.so", PREFIX=prefix)
-    left = [name for name in files_of(prefix) if folders.get(name.split("/__py")[0].split("/morgana")[0]) != foreign]
-    hold("files left of the half", ([], 4), (left, len(files_of(prefix))))
+    left = [f"{place}/{name}" for place in foreign for name in MODULE]
+    hold("files left of the half", sorted(left), sorted(files_of(prefix)))
+
+
+def written_module(folder, text):
+    """Writes a text as the files of a Python module."""
+    os.makedirs(f"{folder}/__pycache__")
+    for name in MODULE:
+        with open(f"{folder}/{name}", "w") as file:
+            file.write(text)
 
 
 def hold_all():
@@ -135,10 +147,9 @@ def hold_all():
     """
     version = printed("tools/version").strip()
     with tempfile.TemporaryDirectory() as folder:
-        hold_unprinted(folder, version)
-    with tempfile.TemporaryDirectory() as folder:
         hold_stage(folder, version)
         hold_refusals(folder)
         hold_halves(folder)
+        hold_unprinted(folder, version)
         hold_prefix(folder, version)
     return len(wanted_files(version))

@@ -4,7 +4,7 @@ import os
 import re
 import shutil
 
-from .commands import hold, printed, run
+from .commands import ROOT, hold, printed, run
 from .places import soname_of
 
 EXAMPLE = "examples/c/compare.c"
@@ -134,7 +134,7 @@ def hold_readme(prefix, folder, keys):
     """The command with which README.md compiles the example makes a program that does its work."""
     if not shutil.which("pkg-config"):
         return
-    with open("README.md", encoding="utf-8") as file:
+    with open(f"{ROOT}/README.md", encoding="utf-8") as file:
         commands = re.findall(r"^    \$ (cc .*) -o compare$", file.read(), re.MULTILINE)
     hold("commands of README.md that compile the example", 1, len(commands))
     program = f"{folder}/readme"

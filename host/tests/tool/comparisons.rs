@@ -1,7 +1,8 @@
 //! The command that compares two keys.
 
-use crate::keys::{flat, sample, single, single_in_two, wide};
+use crate::keys::{cell, flat, head, sample, single, single_in_two, sparse, wide, END};
 use crate::support::Folder;
+use std::collections::BTreeSet;
 
 /// The verdict's two lines, and the numbers of each line of the points.
 fn parts(out: &str) -> ([&str; 2], Vec<(&str, Vec<u32>)>) {
@@ -50,7 +51,6 @@ fn the_verdict_comes_first_and_the_points_behind_it() {
 #[test]
 fn wide_keys_take_a_point_more() {
     let folder = Folder::new("wide", &[("one", &wide(1)), ("again", &wide(1))]);
-    folder.write("other", &[wide(1).as_slice(), &[]].concat());
     let identical = "same\nthe files are identical, so this is certain\n";
     folder
         .run(&["compare", "one", "again"])
@@ -103,5 +103,69 @@ fn the_first_point_that_differs_is_shown() {
             .answers(1, &(verdict.clone() + "rows\ncolumns\n"));
         let quiet = [&arguments[..], &["--quiet"]].concat();
         folder.run(&quiet).answers(1, &verdict);
+    }
+}
+
+#[test]
+fn each_point_is_drawn_anew() {
+    let folder = Folder::new("anew", &[("sample", &sample()), ("flat", &flat())]);
+    for field in [&[][..], &["--quadratic"]] {
+        let ran = folder.run(&[&["compare", "sample", "flat", "--points=7"], field].concat());
+        let lines: Vec<_> = ran.out.lines().skip(2).collect();
+        // No two of 14 lines, and no two of the numbers, are the same but once in millions of runs.
+        assert_eq!(
+            lines.iter().collect::<BTreeSet<_>>().len(),
+            14,
+            "{}",
+            ran.out
+        );
+        let words = lines.iter().flat_map(|line| line.split(' ').skip(1));
+        let numbers: Vec<_> = words.collect();
+        assert_eq!(
+            numbers.iter().collect::<BTreeSet<_>>().len(),
+            numbers.len(),
+            "{}",
+            ran.out
+        );
+    }
+}
+
+#[test]
+fn a_key_need_not_be_square() {
+    for (rows, columns) in [(0, 2), (2, 0), (1, 2)] {
+        let key =
+            |cells: &[u8]| [&head(rows, columns), &sparse(rows, columns), cells, &END].concat();
+        let (one, two) = (
+            cell(0, 0, 3, 0, 0),
+            [cell(0, 0, 1, 0, 0), cell(0, 0, 2, 0, 0)].concat(),
+        );
+        let folder = Folder::new(
+            &format!("oblong-{rows}-{columns}"),
+            &[("one", &key(&one)), ("two", &key(&two))],
+        );
+        let ran = folder.run(&["compare", "one", "two", "--quiet"]);
+        let m = rows + columns;
+        assert!(
+            ran.out.ends_with(&format!(" (m = {m}, 3 points)\n")),
+            "{}",
+            ran.out
+        );
+        let json = folder
+            .run(&["compare", "one", "two", "--quiet", "--json"])
+            .out;
+        assert!(
+            json.contains("\"certain\":false,\"identical\":false"),
+            "{json}"
+        );
+        let last = (1 << columns) - 1;
+        let there = if columns == 0 {
+            "0 alone".to_owned()
+        } else {
+            format!("0 to {last}")
+        };
+        folder.run(&["cell", "one", "0", "9"]).answers(
+            2,
+            &format!("refused 24 at 1: column outside the last array; column 9 given, and columns are {there}; key \"one\"\n"),
+        );
     }
 }

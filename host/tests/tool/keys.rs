@@ -55,6 +55,12 @@ pub fn flat() -> Vec<u8> {
     .concat()
 }
 
+/// A key of flat's shape with another B at row 0, column 1: the two are the same where the row coordinate is 1.
+pub fn other() -> Vec<u8> {
+    let cell = cell(0, 1, 10, 15, 0);
+    [head(1, 1), sparse(1, 1), cell, END.to_vec()].concat()
+}
+
 /// A key of no bits with one cell.
 pub fn single(a: u32) -> Vec<u8> {
     [head(0, 0), sparse(0, 0), cell(0, 0, a, 2, 3), END.to_vec()].concat()

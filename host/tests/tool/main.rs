@@ -3,7 +3,6 @@
 mod comparisons;
 mod failures;
 mod json;
-mod kept;
 mod keys;
 mod listings;
 mod many;

@@ -1,15 +1,10 @@
 //! Several keys at once: check of several files, compare of two folders and of a list of pairs.
 
-use crate::keys::{flat, sample, single, single_in_two};
+use crate::keys::{flat, other, sample, single, single_in_two};
 use crate::support::Folder;
 use std::fs;
 
 const BOUND: &str = "bound 8.1e-28 (m = 2, 3 points)";
-
-/// A key of flat's shape with another B.
-fn other() -> Vec<u8> {
-    [&flat()[..19], &[15], &flat()[20..]].concat()
-}
 
 #[test]
 fn check_goes_on_behind_a_fault() {
@@ -230,4 +225,36 @@ fn only_regular_files_of_folders_are_read() {
         |name: &str| format!("same \"old/{name}\" \"new/{name}\"; certain, identical files\n");
     let wanted = [same("a"), failed("deep"), failed("endless"), same("link")].concat();
     folder.run(&["compare", "old", "new"]).answers(3, &wanted);
+}
+
+#[test]
+fn folders_take_the_options_and_every_file() {
+    let folder = Folder::new("folder-options", &[]);
+    // The keys differ at row 0, column 1 alone, which weighs (1 - r)·c: nothing where r is 1.
+    let point = b"rows 1\ncolumns 5\n";
+    folder.folder("old");
+    folder.folder("new");
+    for name in ["a", ".hidden"] {
+        folder.write(format!("old/{name}"), &flat());
+        folder.write(format!("new/{name}"), &other());
+    }
+    folder.write("points", point);
+    let run = |rest: &[&str]| folder.run(&[&["compare", "old", "new"], rest].concat());
+    let same = |name: &str| {
+        format!("same \"old/{name}\" \"new/{name}\"; no bound, 1 point of \"points\"\n")
+    };
+    run(&["--point=points"]).answers(0, &(same(".hidden") + &same("a")));
+    let ran = folder.run_on(&["compare", "old", "new", "--point=-"], point);
+    let input = |name: &str| {
+        format!("same \"old/{name}\" \"new/{name}\"; no bound, 1 point of standard input\n")
+    };
+    ran.answers(0, &(input(".hidden") + &input("a")));
+    folder.write("new/a", &sample());
+    folder.write("new/.hidden", &flat());
+    let wanted = "same \"old/.hidden\" \"new/.hidden\"; certain, identical files\n\
+        same \"old/a\" \"new/a\"; bound 1.9e-37 (q = p², m = 2, 2 points)\n";
+    run(&["--quadratic"]).answers(0, wanted);
+    folder.write("old/only", &flat());
+    let failed = "failed \"old/only\" \"new/only\"; cannot read \"new/only\": No such file or directory (os error 2)\n";
+    run(&["--quadratic"]).answers(3, &(wanted.to_owned() + failed));
 }

@@ -1,6 +1,6 @@
 //! Points that were printed, used again.
 
-use crate::keys::{flat, sample, single, single_in_two, wide, wide_in_two};
+use crate::keys::{flat, other, sample, single, single_in_two, wide, wide_in_two};
 use crate::support::Folder;
 
 #[test]
@@ -102,8 +102,7 @@ fn what_compare_printed_can_be_used_again() {
 
 #[test]
 fn a_point_that_shows_a_difference_shows_it_again() {
-    let other = [&flat()[..19], &[15], &flat()[20..]].concat();
-    let folder = Folder::new("differs-again", &[("flat", &flat()), ("other", &other)]);
+    let folder = Folder::new("differs-again", &[("flat", &flat()), ("other", &other())]);
     for option in [&[][..], &["--quadratic"]] {
         let run = |arguments: &[&str]| {
             folder.run(&[&["compare", "flat", "other"], arguments, option].concat())
@@ -134,8 +133,7 @@ fn points_of_a_file_have_no_bound_but_may_be_certain() {
 
 #[test]
 fn the_points_before_one_that_differs_are_left_out() {
-    let other = [&flat()[..19], &[15], &flat()[20..]].concat();
-    let folder = Folder::new("agrees-first", &[("flat", &flat()), ("other", &other)]);
+    let folder = Folder::new("agrees-first", &[("flat", &flat()), ("other", &other())]);
     // The keys differ at row 0, column 1 alone, which weighs (1 - r)·c: nothing where r is 1.
     folder.write(
         "points",
@@ -160,4 +158,74 @@ fn the_points_before_one_that_differs_are_left_out() {
         "{}",
         ran.out
     );
+}
+
+#[test]
+fn a_later_point_may_show_the_difference() {
+    let folder = Folder::new("later", &[("flat", &flat()), ("other", &other())]);
+    // The keys are the same where the row coordinate is 1.
+    let points = "rows 1\ncolumns 5\nrows 1\ncolumns 6\nrows 3\ncolumns 4\nrows 7\ncolumns 7\n";
+    folder.write("points", points.as_bytes());
+    folder.write("list", b"flat other\n");
+    let run = |rest: &[&str]| folder.run(&[&["compare", "--point=points"], rest].concat());
+    run(&["flat", "other"]).answers(1, "different\nat point 3 of 4\nrows 3\ncolumns 4\n");
+    run(&["--pairs=list"]).answers(1, "different \"flat\" \"other\"; at point 3 of 4\n");
+    folder.write("points", &points.as_bytes()[..points.len() / 2]);
+    run(&["--pairs=list"]).answers(
+        0,
+        "same \"flat\" \"other\"; no bound, 2 points of \"points\"\n",
+    );
+    folder.write("points", b"rows 1\ncolumns 5\nrows\ncolumns\n");
+    run(&["flat", "other"]).answers(
+        2,
+        "refused 21 at 0: row count not n, or not 2n over p²; 0 given, 1 wanted; point 2 of \"points\"; \
+         keys \"flat\" \"other\"\n",
+    );
+}
+
+#[test]
+fn whole_output_with_refusals_in_it_is_read() {
+    let folder = Folder::new(
+        "refusals-in-it",
+        &[("sample", &sample()), ("flat", &flat()), ("bad", b"\xff")],
+    );
+    folder.write("list", b"sample bad\nsample absent\n");
+    folder.write("point", b"rows 1\ncolumns 5\n");
+    for json in [&[][..], &["--json"]] {
+        let run = |rest: &[&str]| folder.run(&[&["compare"], rest, json].concat()).out;
+        let text = [
+            run(&["bad", "flat"]),
+            run(&["--pairs=list"]),
+            run(&["sample", "sample"]),
+            run(&["sample", "flat", "--points=2"]),
+            run(&["sample", "flat", "--point=point"]),
+            folder.run(&[&["evaluate", "sample"], json].concat()).out,
+        ];
+        for text in [
+            text.concat(),
+            text.concat()
+                .replace('\n', "\r\n")
+                .replace(":[", ": [")
+                .replace(",\"", ", \""),
+        ] {
+            folder.write("out", text.as_bytes());
+            let ran = folder.run(&["compare", "sample", "flat", "--point=out", "--quiet"]);
+            assert!(
+                ran.out.starts_with("same\nat the 4 points of \"out\""),
+                "{}{}",
+                ran.out,
+                ran.errors
+            );
+        }
+    }
+}
+
+#[test]
+fn a_point_file_may_be_long() {
+    let folder = Folder::new("long-points", &[("sample", &sample())]);
+    let point = "rows 2147483646\ncolumns 2147483646\n";
+    folder.write("points", point.repeat(20_000).as_bytes());
+    let ran = folder.run(&["evaluate", "sample", "--point=points"]);
+    ran.status(0);
+    assert_eq!(ran.out.matches(point).count(), 20_000);
 }

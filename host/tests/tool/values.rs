@@ -99,3 +99,15 @@ fn a_key_may_come_from_standard_input() {
     let ran = folder.run_on(&["evaluate", "sample", "--point=-"], b"rows 0\ncolumns 1\n");
     assert!(ran.out.ends_with("\nA 10 B 14 C 0\n"), "{}", ran.out);
 }
+
+#[test]
+fn every_array_is_printed() {
+    let key = [&[1, 0, 0][..], &[2, 0, 0].repeat(1024), &[6]].concat();
+    let folder = Folder::new("arrays", &[("key", &key)]);
+    let ran = folder.run(&["evaluate", "key"]);
+    let lines: Vec<_> = ran.out.lines().skip(2).take(1024).collect();
+    let wanted: Vec<_> = (0..1024).map(|array| format!("{array} 0 0 0")).collect();
+    assert_eq!(lines, wanted);
+    let json = folder.run(&["evaluate", "key", "--json"]);
+    assert_eq!(json.out.matches("[0,0,0]").count(), 1024);
+}

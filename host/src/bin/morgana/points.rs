@@ -105,8 +105,8 @@ fn of_json(text: &str, field: Field) -> Result<Vec<Point>, String> {
     let members = Value::read(text)?.members();
     same_field(member(&members, "field"), field)?;
     let has_parts = |value| matches!(value, Value::List(_) | Value::Object(_));
-    let own = ["rows", "columns"].map(|name| member(&members, name).is_some_and(has_parts));
-    let own = own.contains(&true);
+    let listed = |name| member(&members, name).is_some_and(has_parts);
+    let own = listed("rows") || listed("columns");
     match member(&members, "points") {
         Some(Value::List(_)) if own => Err("points stand beside rows or columns".to_owned()),
         Some(list @ Value::List(_)) => list.items().into_iter().map(of_object).collect(),
