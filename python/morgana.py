@@ -1,5 +1,5 @@
 """Morgana circuit keys: checked, evaluated at a point, asked for single cells,
-and compared.
+compared, and moved into the other edition.
 
 The module calls the proved library libmorgana.so by ctypes. Its calls are
 those of morgana.h. A key is bytes, in any object that has the buffer protocol
@@ -51,6 +51,17 @@ numpy uint32, a ctypes array, a cast memoryview); any other raises TypeError.
 >>> list(sheet)
 [20, 28, 0, 2147483567, 2147483535, 0]
 
+Editions. This key is of edition 1: its head is of kind 01, and its calls are
+of kind 05. In edition 2 the head is of kind 07, and calls are of kind 08 and
+have a factor below p, by which the called matrices are multiplied. Every call
+takes keys of both, and moved answers a key in the edition that it is not of:
+
+>>> there = morgana.moved(old)
+>>> there[0], len(old), len(there)
+(7, 53, 61)
+>>> morgana.moved(there) == old
+True
+
 Refusals. What the library refuses raises Refused, and leaves the sheet:
 
 >>> morgana.check(old[:40])
@@ -78,12 +89,12 @@ import secrets
 import typing
 
 __all__ = [
-    "check", "evaluate", "cell", "compare", "evaluate_quadratic", "compare_quadratic", "version",
-    "random_point", "likelihood", "Counts", "Values", "Quadratic", "Compared", "Refused", "Number",
-    "P", "KEY_LIMIT", "MOST_ARRAYS", "MOST_BITS", "SHEET", "SHEET_QUADRATIC", "FOLDER",
+    "check", "evaluate", "cell", "compare", "evaluate_quadratic", "compare_quadratic", "moved",
+    "version", "random_point", "likelihood", "Counts", "Values", "Quadratic", "Compared", "Refused",
+    "Number", "P", "KEY_LIMIT", "MOST_ARRAYS", "MOST_BITS", "SHEET", "SHEET_QUADRATIC", "FOLDER",
 ]
 
-__version__ = "0.2.0"
+__version__ = "0.3.0"
 
 # The folder of the installed library; empty in a module that is not installed.
 FOLDER = ""
@@ -114,7 +125,7 @@ class Number(enum.IntEnum):
     BITS_TOO_MANY = 5, "head bits over 30, or array bits over the head's"
     ARRAYS_TOO_MANY = 6, "a 1,025th array"
     CELL_OUTSIDE = 7, "cell address outside its array"
-    VALUE_TOO_GREAT = 8, "cell value p or more"
+    VALUE_TOO_GREAT = 8, "cell value or factor p or more"
     CALLED_NOT_EARLIER = 9, "called id not earlier"
     CALLED_TOO_LARGE = 10, "called array larger in rows or columns"
     POSITION_TOO_GREAT = 11, "call position too great"
@@ -125,7 +136,10 @@ class Number(enum.IntEnum):
     COORDINATE_TOO_GREAT = 23, "coordinate p or more"
     ADDRESS_OUTSIDE = 24, "row or column outside the last array"
     SHEET_TOO_SHORT = 31, "sheet below 3·arrays, or 6·arrays over p²"
+    BUFFER_TOO_SHORT = 32, "copy doesn't fit the buffer"
     SHAPES_DIFFER = 35, "shapes differ"
+    FACTOR_NOT_ONE = 55, "a factor other than 1 on the way back"
+    MOVED_TOO_LONG = 56, "moved key over 65,536 bytes"
 
     def __new__(cls, number, sentence):
         member = int.__new__(cls, number)
@@ -140,7 +154,8 @@ class Refused(Exception):
     place     where: for 1 to 13 an offset in the key; for 21 and 22 the count
               of numbers received; for 23 the number's index, rows first; for
               24 0 for the row and 1 for the column; for 31 the length needed;
-              for 35 0
+              for 32 the copy's length; for 35 0; for 55 the offset of the
+              call; for 56 the moved key's length
     key       the key that a refused comparison names, 1 or 2, else None
     sentence  the condition in words
     """
@@ -210,10 +225,12 @@ class Compared:
         raise TypeError("Compared has no truth value: use .same")
 
 
-def _reply(name, *fields):
-    """The structure that a call answers: number, place, and then these 32-bit fields."""
+def _reply(name, *fields, kind=ctypes.c_uint32):
+    """The structure that a call answers: number, place, and then these fields, of 32 bits each
+    unless they are of another kind.
+    """
     types = [("number", ctypes.c_uint32), ("place", ctypes.c_uint64)]
-    types += [(field, ctypes.c_uint32) for field in fields]
+    types += [(field, kind) for field in fields]
     return type(name, (ctypes.Structure,), {"_fields_": types})
 
 
@@ -221,8 +238,10 @@ _CheckReply = _reply("_CheckReply", "arrays", "cells", "calls", "rows", "columns
 _EvaluateReply = _reply("_EvaluateReply", "a", "b", "c")
 _QuadraticReply = _reply("_QuadraticReply", "a_u", "a_v", "b_u", "b_v", "c_u", "c_v")
 _CompareReply = _reply("_CompareReply", "key", "same")
+_MoveReply = _reply("_MoveReply", "length", kind=ctypes.c_uint64)
 
 _KEY = (ctypes.c_char_p, ctypes.c_size_t)
+_BUFFER = (ctypes.c_char_p, ctypes.c_size_t)
 _PLACE = (ctypes.c_uint32, ctypes.c_uint32)
 _NUMBERS = (ctypes.POINTER(ctypes.c_uint32), ctypes.c_size_t)
 
@@ -235,6 +254,7 @@ _FUNCTIONS = {
     "morgana_compare": (_CompareReply, 2 * _KEY + 3 * _NUMBERS),
     "morgana_evaluate_quadratic": (_QuadraticReply, _KEY + 3 * _NUMBERS),
     "morgana_compare_quadratic": (_CompareReply, 2 * _KEY + 3 * _NUMBERS),
+    "morgana_move": (_MoveReply, _KEY + _BUFFER),
 }
 
 
@@ -245,7 +265,7 @@ def _chosen():
 
 
 def _version_text(number):
-    """The version that one number stands for, as 0.2.0."""
+    """The version that one number stands for, as 0.3.0."""
     return f"{number // 1_000_000}.{number // 1_000 % 1_000}.{number % 1_000}"
 
 
@@ -343,7 +363,8 @@ def check(key):
     """Answers the Counts of an accepted key.
 
     Refuses with 1; then record by record with 2 for no byte, 3, 2 for a cut
-    body, 4, 6, 5, 7 to 12 by number; then with 13.
+    body, 4, 6, 5, 7 to 12 by number; then with 13. A call of the other edition
+    than the head's is refused with 4, and a factor of p or more with 8.
     """
     reply = _accepted(_library.morgana_check(*_bytes(key)))
     names = "arrays", "cells", "calls", "rows", "columns"
@@ -415,6 +436,21 @@ def compare_quadratic(first, second, rows, columns, sheet=None):
     function = _library.morgana_compare_quadratic
     reply = _accepted(_at_point(function, [first, second], rows, columns, sheet, SHEET_QUADRATIC))
     return Compared(same=reply.same == 1)
+
+
+def moved(key):
+    """Answers the bytes of a key in the edition that its head is not of: heads
+    change between 01 and 07 and calls between 05 and 08, which have factor 1;
+    all else is the same. So it has the same counts and matrices, and moving it
+    gives the first bytes again.
+
+    Refuses as check does; then with 55 for the first call of edition 2 whose
+    factor is not 1; then with 56 where it would be too long.
+    """
+    # As long as a key may be, so that 32 does not come.
+    buffer = ctypes.create_string_buffer(KEY_LIMIT)
+    reply = _accepted(_library.morgana_move(*_bytes(key), buffer, KEY_LIMIT))
+    return buffer[:reply.length]
 
 
 def _between(name, number, least, most):

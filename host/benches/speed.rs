@@ -1,6 +1,6 @@
 //! The archive beside the independent Rust pass, on the same inputs in one run: evaluate, check and
-//! compare on full-size keys, on short ones and on sizes between, on towers and on keys of narrow and of
-//! many arrays. The rounds of all sides alternate, and the table gives medians. `Rust` multiplies factor by
+//! compare on full-size keys, also of edition 2, on short ones and on sizes between, on towers and on keys
+//! of narrow and of many arrays. The rounds of all sides alternate, and the table gives medians. `Rust` multiplies factor by
 //! factor; `tables` takes five factors at a time from tables; `best` is the ratio to the better of the
 //! two, and the last line names the highest. (The archive takes limbs of five where they pay.)
 //!

@@ -1,21 +1,28 @@
 /* Morgana circuit keys: checked, evaluated at a point, asked for single cells,
- * and compared.
+ * compared, and moved into the other edition.
  *
  * Link with libmorgana, on Linux on x86-64. The header can be included from C
  * (C99 and later) and from C++ (C++11 and later). Whatever numbers and slices a
  * call is given, it answers: what it cannot work with it refuses.
  *
  * No call takes memory from the heap, does input or output, or keeps anything
- * between calls, so that calls may run at the same time on different sheets.
- * Keys and points are taken to be public: the time that a call takes depends on
- * them.
+ * between calls, so that calls may run at the same time on different sheets and
+ * buffers. Keys and points are taken to be public: the time that a call takes
+ * depends on them.
  *
  * Slices. A slice is a pointer and then a length, which counts bytes for a key
- * and 32-bit numbers otherwise. The pointer of an empty slice may be null.
- * Every other pointer must point at that many bytes or numbers, be aligned as
- * its type is, and nothing else may write to them during the call. The sheet
- * must not overlap any other slice of the call; the other slices may overlap
- * each other.
+ * or a buffer and 32-bit numbers otherwise. The pointer of an empty slice may
+ * be null. Every other pointer must point at that many bytes or numbers, be
+ * aligned as its type is, and nothing else may write to them during the call.
+ * The sheet or the buffer must not overlap any other slice of the call; the
+ * other slices may overlap each other.
+ *
+ * Editions. A key is of edition 1 where its head is of kind 01, and of edition
+ * 2 where it is of kind 07. In edition 1 calls are of kind 05; in edition 2
+ * they are of kind 08 and have a factor below p, by which the called matrices
+ * are multiplied. The factor of a call of edition 1 is 1. Every function takes
+ * keys of both editions, and those that compare also one of each. The first
+ * byte of an accepted key, 1 or 7, tells its edition.
  *
  * The fields. p = 2147483647, and a number of the field is 0 to p - 1. A point
  * is n row coordinates and n' column coordinates below p, where n and n' are
@@ -34,7 +41,7 @@
  *
  * Replies. `number` is 0 where nothing is refused, and then `place` is 0. Where
  * the call is refused, `number` and `place` give the refusal, every other field
- * but `key` is 0, and the sheet is untouched.
+ * but `key` is 0, and the sheet or the buffer is untouched.
  *
  * Refusals. `number` says what is at fault: it is one of MorganaNumber, which
  * lists the numbers by who is at fault. `place` says where, and the number says
@@ -61,7 +68,7 @@ extern "C" {
 
 /* The version that this header belongs to, and all of it as one number. */
 #define MORGANA_VERSION_MAJOR 0
-#define MORGANA_VERSION_MINOR 2
+#define MORGANA_VERSION_MINOR 3
 #define MORGANA_VERSION_PATCH 0
 #define MORGANA_VERSION                                                        \
     (1000000 * MORGANA_VERSION_MAJOR + 1000 * MORGANA_VERSION_MINOR +          \
@@ -70,7 +77,7 @@ extern "C" {
 /* The prime p. */
 #define MORGANA_P 2147483647u
 
-/* The most bytes of a key. */
+/* The most bytes of a key, and so of a buffer that suffices for every copy. */
 #define MORGANA_KEY_LIMIT 65536
 
 /* The most arrays of a key. */
@@ -104,7 +111,8 @@ typedef enum MorganaNumber {
     MORGANA_RECORD_INCOMPLETE = 2,
     /* unknown kind; likewise */
     MORGANA_KIND_UNKNOWN = 3,
-    /* record not allowed at this point, or end before any array; likewise */
+    /* record not allowed at this point, as a call of the other edition, or end
+     * before any array; likewise */
     MORGANA_RECORD_MISPLACED = 4,
     /* head bits over 30, or array bits over the head's; likewise */
     MORGANA_BITS_TOO_MANY = 5,
@@ -112,7 +120,7 @@ typedef enum MorganaNumber {
     MORGANA_ARRAYS_TOO_MANY = 6,
     /* cell address outside its array; likewise */
     MORGANA_CELL_OUTSIDE = 7,
-    /* cell value p or more; likewise */
+    /* cell value or factor p or more; likewise */
     MORGANA_VALUE_TOO_GREAT = 8,
     /* called id not earlier; likewise */
     MORGANA_CALLED_NOT_EARLIER = 9,
@@ -140,8 +148,17 @@ typedef enum MorganaNumber {
 
     /* sheet below 3 * arrays (_quadratic: 6 * arrays); the length needed */
     MORGANA_SHEET_TOO_SHORT = 31,
+    /* copy doesn't fit the buffer; the copy's length */
+    MORGANA_BUFFER_TOO_SHORT = 32,
     /* shapes differ; 0 */
     MORGANA_SHAPES_DIFFER = 35,
+
+    /* Who moves a key. */
+
+    /* a factor other than 1 on the way back; offset of its call */
+    MORGANA_FACTOR_NOT_ONE = 55,
+    /* moved key over 65,536 bytes; its length */
+    MORGANA_MOVED_TOO_LONG = 56,
 } MorganaNumber;
 
 /* What morgana_check answers. */
@@ -150,7 +167,7 @@ typedef struct MorganaCheckReply {
     uint64_t place;   /* the place of the refusal, or 0 */
     uint32_t arrays;  /* how many arrays the key has */
     uint32_t cells;   /* how many cells */
-    uint32_t calls;   /* how many calls */
+    uint32_t calls;   /* how many calls, of either edition */
     uint32_t rows;    /* the head's row bits n */
     uint32_t columns; /* the head's column bits n' */
 } MorganaCheckReply;
@@ -183,6 +200,13 @@ typedef struct MorganaCompareReply {
     uint32_t key;    /* the key at fault: 1 first, 2 second, 0 neither */
     uint32_t same;   /* 1 for "same", 0 for "different" */
 } MorganaCompareReply;
+
+/* What morgana_move answers. */
+typedef struct MorganaMoveReply {
+    uint32_t number; /* the number of the refusal, or 0 */
+    uint64_t place;  /* the place of the refusal, or 0 */
+    uint64_t length; /* the bytes of the copy */
+} MorganaMoveReply;
 
 /* The version of the library that the program runs with, as MORGANA_VERSION
  * gives the header's. */
@@ -243,6 +267,16 @@ morgana_compare_quadratic(const uint8_t *first, size_t first_length,
                           const uint32_t *rows, size_t rows_length,
                           const uint32_t *columns, size_t columns_length,
                           uint32_t *sheet, size_t sheet_length);
+
+/* Copies a key, to the start of the buffer, into the edition that its head is
+ * not: heads change between 01 and 07 and calls between 05 and 08, which have
+ * factor 1; all else is copied byte for byte. So the copy is a key with the
+ * same counts and matrices, and moving it gives the first bytes again. Answers
+ * the copy's length; the bytes behind it stay. Refuses as morgana_check does,
+ * then with 55 (from edition 2 to edition 1 alone: the first call whose factor
+ * is not 1), 56, 32. */
+MorganaMoveReply morgana_move(const uint8_t *key, size_t key_length,
+                              uint8_t *buffer, size_t buffer_length);
 
 #ifdef __cplusplus
 }

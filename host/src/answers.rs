@@ -13,7 +13,7 @@ pub struct Counts {
     pub arrays: u32,
     /// How many cells stand in its sparse arrays.
     pub cells: u32,
-    /// How many calls stand in its recursive arrays.
+    /// How many calls, of either edition, stand in its recursive arrays.
     pub calls: u32,
     /// The head's row bits n.
     pub rows: u32,

@@ -190,6 +190,44 @@ pub fn compare_quadratic(
     })
 }
 
+/// Copies a key, to the start of the buffer, into the edition that its head is not, and answers the copy's length; or
+/// refuses as check does, or with 55, 56 or 32. The bytes behind the copy stay.
+///
+/// Heads change between 01 and 07, and calls between 05 and 08, which then have factor 1; all else is copied byte for
+/// byte. So the copy is a key with the same counts and matrices, and moving it gives the first bytes again. Only on the
+/// way back, from edition 2 to edition 1, can a factor be other than 1 (55). [`KEY_LIMIT`](crate::KEY_LIMIT) bytes
+/// suffice for every copy.
+///
+/// ```
+/// let key = [
+///     1, 0, 0, // head of edition 1: no bits
+///     2, 0, 0, // array 0, sparse
+///     3, 0, 0, // array 1, recursive
+///     5, 0, 0, 0, 0, 0, 0, 0, 0, 0, 0, // a call of array 0
+///     6, // end
+/// ];
+/// let mut buffer = [0; morgana::KEY_LIMIT];
+/// let length = morgana::moved(&key, &mut buffer)?;
+/// let copy = &buffer[..length];
+/// assert_eq!(copy[..3], [7, 0, 0]);
+/// assert_eq!(copy[9..24], [8, 0, 0, 0, 0, 0, 0, 0, 0, 0, 0, 1, 0, 0, 0]);
+/// assert_eq!(morgana::check(copy), morgana::check(&key));
+///
+/// let mut back = [0; 21];
+/// assert_eq!(morgana::moved(copy, &mut back), Ok(key.len()));
+/// assert_eq!(back, key);
+/// # Ok::<(), morgana::Refusal>(())
+/// ```
+pub fn moved(key: &[u8], buffer: &mut [u8]) -> Result<usize, Refusal> {
+    same_interface();
+    // SAFETY: each pointer and length are of one slice, lent until the call returns, and the buffer, lent for
+    // writing, overlaps no other; replies are of this interface.
+    let reply =
+        unsafe { raw::morgana_move(key.as_ptr(), key.len(), buffer.as_mut_ptr(), buffer.len()) };
+    refused(reply.number, reply.place)?;
+    Ok(reply.length as usize)
+}
+
 /// What a reply says of two keys, or its refusal.
 fn compared(reply: raw::CompareReply) -> Result<Compared, CompareRefusal> {
     let which = match reply.key {

@@ -3,7 +3,7 @@
 /// The prime p: field numbers are 0 to p - 1.
 pub const P: u32 = 2_147_483_647;
 
-/// The most bytes of a key; one more is refused with 1.
+/// The most bytes of a key; one more is refused with 1. So many suffice for every copy that [`crate::moved`] makes.
 pub const KEY_LIMIT: usize = 65_536;
 
 /// The most arrays of a key; one more is refused with 6.

@@ -1,4 +1,5 @@
-//! Morgana circuit keys: checked, evaluated at a point, asked for single cells, and compared.
+//! Morgana circuit keys: checked, evaluated at a point, asked for single cells, compared, and moved into the other
+//! edition.
 //!
 //! The functions are safe Rust over the library `libmorgana.a`, whose calls are proved to answer
 //! rightly for every input; this package around it is tested. None takes memory from the heap or
@@ -43,6 +44,13 @@
 //! stay. [`SHEET`] and [`SHEET_QUADRATIC`] places suffice for every key. A refused call leaves
 //! its sheet as it was.
 //!
+//! # Editions
+//!
+//! A key is of edition 1 where its head is of kind 01, and of edition 2 where it is of kind 07. In edition 1 calls are of
+//! kind 05; in edition 2 they are of kind 08 and have a factor below p, by which the called matrices are multiplied. The
+//! factor of a call of edition 1 is 1. Every function takes keys of both editions, and those that compare also one of
+//! each. The first byte of an accepted key, 1 or 7, tells its edition; [`moved`] copies a key into the other one.
+//!
 //! # Refusals
 //!
 //! What a call cannot work with it refuses with a number and a place: [`Refusal`] has the table.
@@ -61,7 +69,8 @@ pub mod raw;
 mod refusal;
 
 pub use answers::{Compared, Counts, Evaluated, Quadratic, QuadraticValues, Values};
-pub use calls::{cell, check, compare, compare_quadratic, evaluate, evaluate_quadratic, version};
+pub use calls::{cell, check, compare, compare_quadratic, evaluate, evaluate_quadratic};
+pub use calls::{moved, version};
 pub use constants::{KEY_LIMIT, MOST_ARRAYS, MOST_BITS, P, SHEET, SHEET_QUADRATIC, STACK, VERSION};
 pub use field::Field;
 pub use likelihood::Likelihood;

@@ -8,7 +8,7 @@ pub const KEY_TOO_LONG: u32 = 1;
 pub const RECORD_INCOMPLETE: u32 = 2;
 /// A record is of an unknown kind.
 pub const KIND_UNKNOWN: u32 = 3;
-/// A record is not allowed at this point, or the end comes before any array.
+/// A record is not allowed at this point, as a call of the other edition, or the end comes before any array.
 pub const RECORD_MISPLACED: u32 = 4;
 /// The head's bits are over 30, or an array's over the head's.
 pub const BITS_TOO_MANY: u32 = 5;
@@ -16,7 +16,7 @@ pub const BITS_TOO_MANY: u32 = 5;
 pub const ARRAYS_TOO_MANY: u32 = 6;
 /// A cell's address is outside its array.
 pub const CELL_OUTSIDE: u32 = 7;
-/// A cell's value is p or more.
+/// A cell's value or a call's factor is p or more.
 pub const VALUE_TOO_GREAT: u32 = 8;
 /// The called array is not an earlier one.
 pub const CALLED_NOT_EARLIER: u32 = 9;
@@ -38,5 +38,11 @@ pub const COORDINATE_TOO_GREAT: u32 = 23;
 pub const ADDRESS_OUTSIDE: u32 = 24;
 /// The sheet has too few places.
 pub const SHEET_TOO_SHORT: u32 = 31;
+/// The copy of a key does not fit the buffer.
+pub const BUFFER_TOO_SHORT: u32 = 32;
 /// The two keys are not of one shape.
 pub const SHAPES_DIFFER: u32 = 35;
+/// A key of edition 2 that is to be moved has a factor other than 1.
+pub const FACTOR_NOT_ONE: u32 = 55;
+/// The moved key would have over 65,536 bytes.
+pub const MOVED_TOO_LONG: u32 = 56;

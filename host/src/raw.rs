@@ -1,9 +1,9 @@
 //! The C interface of `libmorgana.a`, as `include/morgana.h` gives it.
 //!
 //! A slice is a pointer and then a length; the pointer of an empty slice may be null. A call is sound
-//! where each pointer and its length are of one slice that is lent for the call, the sheet overlaps
-//! no other slice, and `morgana_version` answers this package's major and minor version: replies of
-//! another one may be longer. The functions of the package look at it themselves.
+//! where each pointer and its length are of one slice that is lent for the call, the sheet or the
+//! buffer overlaps no other slice, and `morgana_version` answers this package's major and minor
+//! version: replies of another one may be longer. The functions of the package look at it themselves.
 
 use std::mem::{offset_of, size_of};
 
@@ -79,6 +79,18 @@ pub struct CompareReply {
     pub same: u32,
 }
 
+/// What `morgana_move` answers.
+#[repr(C)]
+#[derive(Debug, Clone, Copy, PartialEq, Eq)]
+pub struct MoveReply {
+    /// The number of the refusal; 0 where nothing is refused.
+    pub number: u32,
+    /// The place of the refusal; 0 where nothing is refused.
+    pub place: u64,
+    /// The bytes of the copy.
+    pub length: u64,
+}
+
 const _: () = {
     assert!(size_of::<CheckReply>() == 40);
     assert!(offset_of!(CheckReply, number) == 0);
@@ -117,6 +129,13 @@ const _: () = {
     assert!(offset_of!(CompareReply, place) == 8);
     assert!(offset_of!(CompareReply, key) == 16);
     assert!(offset_of!(CompareReply, same) == 20);
+};
+
+const _: () = {
+    assert!(size_of::<MoveReply>() == 24);
+    assert!(offset_of!(MoveReply, number) == 0);
+    assert!(offset_of!(MoveReply, place) == 8);
+    assert!(offset_of!(MoveReply, length) == 16);
 };
 
 extern "C" {
@@ -187,4 +206,12 @@ extern "C" {
         sheet: *mut u32,
         sheet_length: usize,
     ) -> CompareReply;
+
+    /// Copies a key, to the start of the buffer, into the edition that its head is not.
+    pub fn morgana_move(
+        key: *const u8,
+        key_length: usize,
+        buffer: *mut u8,
+        buffer_length: usize,
+    ) -> MoveReply;
 }

@@ -11,11 +11,11 @@ use std::fmt::{Display, Formatter, Result};
 /// | 1 | key over 65,536 bytes | 65536 |
 /// | 2 | record missing or cut off | offset of the record's first byte |
 /// | 3 | unknown kind | likewise |
-/// | 4 | record not allowed at this point, or end before any array | likewise |
+/// | 4 | record not allowed at this point, as a call of the other edition, or end before any array | likewise |
 /// | 5 | head bits over 30, or array bits over the head's | likewise |
 /// | 6 | a 1,025th array | likewise |
 /// | 7 | cell address outside its array | likewise |
-/// | 8 | cell value p or more | likewise |
+/// | 8 | cell value or factor p or more | likewise |
 /// | 9 | called id not earlier | likewise |
 /// | 10 | called array larger in rows or columns | likewise |
 /// | 11 | call position too great | likewise |
@@ -28,10 +28,14 @@ use std::fmt::{Display, Formatter, Result};
 /// | 24 | row or column outside the last array | 0 for the row, 1 for the column |
 /// | | **calling program** | |
 /// | 31 | sheet below 3·arrays (over p²: 6·arrays) | the length needed |
+/// | 32 | copy doesn't fit the buffer | the copy's length |
 /// | 35 | shapes differ | 0 |
+/// | | **who moves a key** | |
+/// | 55 | a factor other than 1 on the way back | offset of its call |
+/// | 56 | moved key over 65,536 bytes | its length |
 ///
 /// The numbers have names in [`number`](crate::number). Of several refusals the first is answered: check's own, then 35
-/// for compare, then 21, 22 and 23, or 24 for cell, then 31.
+/// for compare, then 21, 22 and 23, or 24 for cell, then 31; for moved check's own, then 55, 56 and 32.
 ///
 /// ```compile_fail
 /// let refusal = morgana::Refusal { number: 2, place: 0 };
@@ -56,7 +60,7 @@ impl Refusal {
             (5, _) => "head bits over 30, or array bits over the head's",
             (6, _) => "a 1,025th array",
             (7, _) => "cell address outside its array",
-            (8, _) => "cell value p or more",
+            (8, _) => "cell value or factor p or more",
             (9, _) => "called id not earlier",
             (10, _) => "called array larger in rows or columns",
             (11, _) => "call position too great",
@@ -68,12 +72,14 @@ impl Refusal {
             (24, 0) => "row outside the last array",
             (24, _) => "column outside the last array",
             (31, _) => "sheet below 3·arrays, or 6·arrays over p²",
-            (32, _) => "record doesn't fit behind the offset",
+            (32, _) => "copy doesn't fit the buffer",
             (33, _) => "offset greater than the slice's length",
             (34, _) => "field operand p or more",
             (35, _) => "shapes differ",
             (41, _) => "input shorter than its two counts and their coordinates",
             (42, _) => "input over 65,536 bytes",
+            (55, _) => "a factor other than 1 on the way back",
+            (56, _) => "moved key over 65,536 bytes",
             _ => "unknown number",
         }
     }
@@ -132,7 +138,7 @@ mod tests {
 
     #[test]
     fn each_number_of_the_library_has_its_own_sentence() {
-        let numbers = [1..=13, 21..=24, 31..=35, 41..=42];
+        let numbers = [1..=13, 21..=24, 31..=35, 41..=42, 55..=56];
         let sentences: Vec<_> = numbers
             .into_iter()
             .flatten()

@@ -1,6 +1,6 @@
-//! The archive tested against the independent implementation on drawn keys, points and sheets: the
-//! answer, every field of the reply, every place of the sheet, and all that lies around what is
-//! lent. `MORGANA_SEED` and `MORGANA_CASES` give another seed and another number of cases.
+//! The archive tested against the independent implementation on drawn keys of both editions, points,
+//! sheets and buffers: the answer, every field of the reply, every place of the sheet and byte of the
+//! buffer, and all that lies around what is lent. `MORGANA_SEED` and `MORGANA_CASES` give another seed and another number of cases.
 
 mod archive;
 mod cases;
@@ -10,18 +10,23 @@ mod lent;
 
 #[path = "differential/held.rs"]
 mod held;
+#[path = "differential/moved.rs"]
+mod moved;
 
 use archive::Served;
 use cases::{outcomes, run};
 use generator::damage::{damaged, mostly_damaged};
 use generator::inputs::{address, sheet, short_sheet, Drawn, Point};
 use generator::keys::any;
+use generator::moves::{buffer, to_move};
 use generator::path::{end_of, path};
 use generator::random::Random;
 use generator::variants::{arrays, second, shape};
 use held::{cell_case, check_case, compare_case, evaluate_case};
+use independent::edition;
 use independent::field::{Field, Fp, Quadratic};
 use independent::record::{bytes, Record};
+use moved::move_case;
 
 /// Check: the counts or the refusal, on whole and damaged keys.
 #[test]
@@ -124,6 +129,28 @@ fn compare_agrees_over<F: Served + Drawn>() {
                 mostly_long_sheet::<F>(random, arrays[0].max(arrays[1]))
             };
             compare_case::<F>(random, &keys, &point, &sheet)
+        },
+    );
+}
+
+/// The move: the copy's length or the refusal, and the buffer.
+#[test]
+fn move_agrees() {
+    let numbers = [
+        ("refused", 1..=13),
+        ("refused", 32..=32),
+        ("refused", 55..=56),
+    ];
+    run(
+        "move",
+        20_000,
+        &outcomes(&["accepted"], &numbers),
+        |random| {
+            let records = to_move(random);
+            let key = mostly_whole(random, &records);
+            let length = edition::moved(&key, &mut [0; 65_536]).unwrap_or(key.len());
+            let buffer = buffer(random, length);
+            move_case(random, &key, &buffer)
         },
     );
 }

@@ -8,12 +8,16 @@ mod written;
 
 #[path = "edges/comparisons.rs"]
 mod comparisons;
+#[path = "edges/editions.rs"]
+mod editions;
 #[path = "edges/fields.rs"]
 mod fields;
 #[path = "edges/full.rs"]
 mod full;
 #[path = "edges/inputs.rs"]
 mod inputs;
+#[path = "edges/moves.rs"]
+mod moves;
 #[path = "edges/quadratics.rs"]
 mod quadratics;
 #[path = "edges/records.rs"]

@@ -1,5 +1,5 @@
 /* Compares morgana.h with libmorgana.a: the layout of the replies, the constants, and every field and
- * lent number after a call. */
+ * lent number or byte after a call. */
 #include <morgana.h>
 
 #include <stdio.h>
@@ -40,6 +40,11 @@ LAYOUT(MorganaCompareReply, number, 0);
 LAYOUT(MorganaCompareReply, place, 8);
 LAYOUT(MorganaCompareReply, key, 16);
 LAYOUT(MorganaCompareReply, same, 20);
+
+_Static_assert(sizeof(MorganaMoveReply) == 24, "size of MorganaMoveReply");
+LAYOUT(MorganaMoveReply, number, 0);
+LAYOUT(MorganaMoveReply, place, 8);
+LAYOUT(MorganaMoveReply, length, 16);
 
 /* How many numbers were compared with what is wanted, and how many were not as wanted. */
 static unsigned held, faults;
@@ -94,6 +99,13 @@ static void compared(int line, MorganaCompareReply got, MorganaCompareReply want
     want(line, "same", wanted.same, got.same);
 }
 
+static void moved(int line, MorganaMoveReply got, MorganaMoveReply wanted)
+{
+    want(line, "number", wanted.number, got.number);
+    want(line, "place", wanted.place, got.place);
+    want(line, "length", wanted.length, got.length);
+}
+
 /* The lent sheet: PLACES numbers between guard words. */
 enum { GUARD = 4, PLACES = 14 };
 static uint32_t lent[GUARD + PLACES + GUARD];
@@ -122,6 +134,34 @@ static void written(int line, size_t count, const uint32_t *numbers)
     }
 }
 
+/* The lent buffer: BYTES bytes between guard bytes. */
+enum { BYTES = 70 };
+static uint8_t lent_bytes[GUARD + BYTES + GUARD];
+static uint8_t *const buffer = lent_bytes + GUARD;
+
+/* The byte that stands at each place of `lent_bytes` before a call. */
+static uint8_t byte_before(size_t index)
+{
+    return (uint8_t)(0xa0 + index);
+}
+
+static void fresh_bytes(void)
+{
+    for (size_t index = 0; index < sizeof lent_bytes; index++)
+        lent_bytes[index] = byte_before(index);
+}
+
+/* Wants so many bytes written at the start of the buffer, and every other byte as it was. */
+static void copied(int line, size_t count, const uint8_t *bytes)
+{
+    for (size_t index = 0; index < sizeof lent_bytes; index++) {
+        char what[40];
+        snprintf(what, sizeof what, "byte %d of the buffer", (int)index - GUARD);
+        int inside = index >= GUARD && index < GUARD + count;
+        want(line, what, inside ? bytes[index - GUARD] : byte_before(index), lent_bytes[index]);
+    }
+}
+
 #define CHECK(key, length, ...) \
     checked(__LINE__, morgana_check(key, length), (MorganaCheckReply){__VA_ARGS__})
 #define EVALUATED(call, ...) \
@@ -130,10 +170,14 @@ static void written(int line, size_t count, const uint32_t *numbers)
     (fresh(), quadratic(__LINE__, call, (MorganaQuadraticReply){__VA_ARGS__}))
 #define COMPARED(call, ...) \
     (fresh(), compared(__LINE__, call, (MorganaCompareReply){__VA_ARGS__}))
+#define MOVED(call, ...) \
+    (fresh_bytes(), moved(__LINE__, call, (MorganaMoveReply){__VA_ARGS__}))
 #define REFUSED(name, at) .number = (name), .place = (at)
 #define SHEET(...) \
     written(__LINE__, sizeof(uint32_t[]){__VA_ARGS__} / sizeof(uint32_t), (uint32_t[]){__VA_ARGS__})
 #define UNTOUCHED() written(__LINE__, 0, NULL)
+#define COPIED(key) copied(__LINE__, sizeof(key), key)
+#define UNCOPIED() copied(__LINE__, 0, NULL)
 
 /* The key of the keysheet example; its last byte is no part of it. */
 static const uint8_t sample[54] = {
@@ -147,6 +191,27 @@ static const uint8_t sample[54] = {
 };
 enum { LENGTH = 53 };
 
+/* The sample in edition 2, with a byte behind it, and the same with factors -1 and 3. */
+static const uint8_t scaled[62] = {
+    7, 1, 1,
+    2, 0, 1,
+    4, 0, 0, 0, 0, 1, 0, 0, 0, 5, 0, 0, 0, 7, 0, 0, 0, 0, 0, 0, 0,
+    3, 1, 1,
+    8, 0, 0, 0, 0, 0, 0, 0, 0, 0, 0, 1, 0, 0, 0,
+    8, 0, 0, 0, 0, 0, 0, 0, 0, 0, 0, 1, 0, 0, 0,
+    6,
+};
+static const uint8_t negated[] = {
+    7, 1, 1,
+    2, 0, 1,
+    4, 0, 0, 0, 0, 1, 0, 0, 0, 5, 0, 0, 0, 7, 0, 0, 0, 0, 0, 0, 0,
+    3, 1, 1,
+    8, 0, 0, 0, 0, 0, 0, 0, 0, 0, 0, 0xfe, 0xff, 0xff, 0x7f,
+    8, 0, 0, 0, 0, 0, 0, 0, 0, 0, 0, 3, 0, 0, 0,
+    6,
+};
+enum { SCALED_LENGTH = 61 };
+
 /* One empty array of the sample's shape; one cell and no bits; a byte that is no kind. */
 static const uint8_t empty[] = {1, 1, 1, 2, 1, 1, 6};
 static const uint8_t single[] = {
@@ -155,7 +220,7 @@ static const uint8_t single[] = {
     4, 0, 0, 0, 0, 0, 0, 0, 0, 1, 0, 0, 0, 2, 0, 0, 0, 3, 0, 0, 0,
     6,
 };
-static const uint8_t unknown[] = {7};
+static const uint8_t unknown[] = {9};
 
 static const uint32_t three[] = {3}, four[] = {4, 4}, prime[] = {MORGANA_P};
 
@@ -186,7 +251,10 @@ static void numbers(void)
     NUMBER(MORGANA_COORDINATE_TOO_GREAT, 23);
     NUMBER(MORGANA_ADDRESS_OUTSIDE, 24);
     NUMBER(MORGANA_SHEET_TOO_SHORT, 31);
+    NUMBER(MORGANA_BUFFER_TOO_SHORT, 32);
     NUMBER(MORGANA_SHAPES_DIFFER, 35);
+    NUMBER(MORGANA_FACTOR_NOT_ONE, 55);
+    NUMBER(MORGANA_MOVED_TOO_LONG, 56);
 }
 
 /* A key without bits that has so many arrays, all empty; its length. */
@@ -212,6 +280,33 @@ static void key_limit(void)
     want(__LINE__, "length", MORGANA_KEY_LIMIT, at);
     CHECK(key, MORGANA_KEY_LIMIT, 0, 0, ARRAYS, CELLS, 0, 0, 0);
     CHECK(key, MORGANA_KEY_LIMIT + 1, REFUSED(MORGANA_KEY_TOO_LONG, MORGANA_KEY_LIMIT));
+}
+
+/* A buffer for every copy suffices for a copy of as many bytes as a key may have, and one byte less
+ * does not; a copy of three bytes more is refused. */
+static void copy_limit(void)
+{
+    static uint8_t key[MORGANA_KEY_LIMIT], copy[MORGANA_KEY_LIMIT];
+    enum { CALLS = 4368 };
+    for (size_t arrays = 4; arrays <= 5; arrays++) {
+        size_t at = arrays_of(arrays, key) - 1;
+        key[at - 3] = 3;
+        for (int i = 0; i < CALLS; i++, at += 11) {
+            memset(key + at, 0, 11);
+            key[at] = 5;
+        }
+        key[at++] = 6;
+        CHECK(key, at, 0, 0, (uint32_t)arrays, 0, CALLS, 0, 0);
+        if (arrays == 4) {
+            MOVED(morgana_move(key, at, copy, MORGANA_KEY_LIMIT), 0, 0, MORGANA_KEY_LIMIT);
+            CHECK(copy, MORGANA_KEY_LIMIT, 0, 0, (uint32_t)arrays, 0, CALLS, 0, 0);
+            MOVED(morgana_move(key, at, copy, MORGANA_KEY_LIMIT - 1),
+                  REFUSED(MORGANA_BUFFER_TOO_SHORT, MORGANA_KEY_LIMIT));
+        } else {
+            MOVED(morgana_move(key, at, copy, MORGANA_KEY_LIMIT),
+                  REFUSED(MORGANA_MOVED_TOO_LONG, MORGANA_KEY_LIMIT + 3));
+        }
+    }
 }
 
 /* A sheet for every key suffices for as many arrays as a key may have, and one place less does
@@ -254,6 +349,7 @@ static void constants(void)
     want(__LINE__, "version", MORGANA_VERSION, morgana_version());
     want(__LINE__, "p", 2147483647, MORGANA_P);
     key_limit();
+    copy_limit();
     arrays_limit();
     bits_limit();
 }
@@ -262,6 +358,8 @@ static void check_calls(void)
 {
     static uint8_t zeros[MORGANA_KEY_LIMIT + 1];
     CHECK(sample, LENGTH, 0, 0, 2, 1, 2, 1, 1);
+    CHECK(scaled, SCALED_LENGTH, 0, 0, 2, 1, 2, 1, 1);
+    CHECK(negated, sizeof negated, 0, 0, 2, 1, 2, 1, 1);
     CHECK(single, sizeof single, 0, 0, 1, 1, 0, 0, 0);
     CHECK(zeros, sizeof zeros, REFUSED(MORGANA_KEY_TOO_LONG, MORGANA_KEY_LIMIT));
     CHECK(zeros, MORGANA_KEY_LIMIT, REFUSED(MORGANA_KIND_UNKNOWN, 0));
@@ -270,6 +368,21 @@ static void check_calls(void)
     CHECK(unknown, 1, REFUSED(MORGANA_KIND_UNKNOWN, 0));
     CHECK(sample + 3, LENGTH - 3, REFUSED(MORGANA_RECORD_MISPLACED, 0));
     CHECK(sample, LENGTH + 1, REFUSED(MORGANA_BYTES_AFTER_END, 53));
+    CHECK(scaled, SCALED_LENGTH - 2, REFUSED(MORGANA_RECORD_INCOMPLETE, 45));
+    CHECK(scaled, SCALED_LENGTH + 1, REFUSED(MORGANA_BYTES_AFTER_END, 61));
+    uint8_t wrong[SCALED_LENGTH];
+    memcpy(wrong, scaled, SCALED_LENGTH);
+    wrong[0] = 1;
+    CHECK(wrong, SCALED_LENGTH, REFUSED(MORGANA_RECORD_MISPLACED, 30));
+    wrong[0] = 7;
+    wrong[3] = 7;
+    CHECK(wrong, SCALED_LENGTH, REFUSED(MORGANA_RECORD_MISPLACED, 3));
+    wrong[3] = 2;
+    memcpy(wrong + 41, (const uint8_t[]){0xff, 0xff, 0xff, 0x7f}, 4);
+    CHECK(wrong, SCALED_LENGTH, REFUSED(MORGANA_VALUE_TOO_GREAT, 30));
+    memcpy(wrong, sample, LENGTH);
+    wrong[0] = 7;
+    CHECK(wrong, LENGTH, REFUSED(MORGANA_RECORD_MISPLACED, 30));
 }
 
 static void evaluate_calls(void)
@@ -278,6 +391,9 @@ static void evaluate_calls(void)
               0, 0, 2147483567, 2147483535, 0);
     SHEET(20, 28, 0, 2147483567, 2147483535, 0);
     EVALUATED(morgana_evaluate(sample, LENGTH, three, 1, four, 1, sheet, 6),
+              0, 0, 2147483567, 2147483535, 0);
+    SHEET(20, 28, 0, 2147483567, 2147483535, 0);
+    EVALUATED(morgana_evaluate(negated, sizeof negated, three, 1, four, 1, sheet, PLACES),
               0, 0, 2147483567, 2147483535, 0);
     SHEET(20, 28, 0, 2147483567, 2147483535, 0);
     EVALUATED(morgana_evaluate(single, sizeof single, NULL, 0, NULL, 0, sheet, PLACES),
@@ -311,6 +427,8 @@ static void cell_calls(void)
 {
     EVALUATED(morgana_cell(sample, LENGTH, 0, 1, sheet, PLACES), 0, 0, 10, 14, 0);
     SHEET(5, 7, 0, 10, 14, 0);
+    EVALUATED(morgana_cell(negated, sizeof negated, 0, 1, sheet, PLACES), 0, 0, 10, 14, 0);
+    SHEET(5, 7, 0, 10, 14, 0);
     EVALUATED(morgana_cell(sample, LENGTH, 1, 1, sheet, 6), 0, 0, 0, 0, 0);
     SHEET(5, 7, 0, 0, 0, 0);
     EVALUATED(morgana_cell(NULL, 0, 0, 0, NULL, 0), REFUSED(MORGANA_RECORD_INCOMPLETE, 0));
@@ -337,6 +455,10 @@ static void compare_calls(void)
                              columns, columns_length, sheet, length), __VA_ARGS__)
     COMPARE(sample, LENGTH, sample, LENGTH, three, 1, four, 1, PLACES, 0, 0, 0, 1);
     SHEET(20, 28, 0, 2147483567, 2147483535, 0);
+    COMPARE(sample, LENGTH, negated, sizeof negated, three, 1, four, 1, PLACES, 0, 0, 0, 1);
+    SHEET(20, 28, 0, 2147483567, 2147483535, 0);
+    COMPARE(scaled, SCALED_LENGTH, other, LENGTH, three, 1, four, 1, PLACES, 0, 0, 0, 0);
+    SHEET(24, 28, 0, 2147483551, 2147483535, 0);
     COMPARE(sample, LENGTH, other, LENGTH, three, 1, four, 1, 6, 0, 0, 0, 0);
     SHEET(24, 28, 0, 2147483551, 2147483535, 0);
     COMPARE(sample, LENGTH, empty, sizeof empty, three, 1, four, 1, PLACES, 0, 0, 0, 0);
@@ -372,6 +494,9 @@ static void evaluate_quadratic_calls(void)
                                          columns_length, sheet, length), __VA_ARGS__)
     /* 5 and 7 times -1 - i, and both times 2 * (1 - i): -20 and -28. */
     EVALUATE(sample, LENGTH, imaginary, 2, greatest, 2, PLACES,
+             0, 0, 2147483627, 0, 2147483619, 0, 0, 0);
+    SHEET(2147483642, 2147483642, 2147483640, 2147483640, 0, 0, 2147483627, 0, 2147483619, 0, 0, 0);
+    EVALUATE(negated, sizeof negated, imaginary, 2, greatest, 2, PLACES,
              0, 0, 2147483627, 0, 2147483619, 0, 0, 0);
     SHEET(2147483642, 2147483642, 2147483640, 2147483640, 0, 0, 2147483627, 0, 2147483619, 0, 0, 0);
     EVALUATE(sample, LENGTH, three_zero, 2, four_zero, 2, 12,
@@ -413,6 +538,9 @@ static void compare_quadratic_calls(void)
     COMPARE_QUADRATIC(sample, LENGTH, sample, LENGTH, imaginary, 2, greatest, 2, PLACES,
                       0, 0, 0, 1);
     SHEET(2147483642, 2147483642, 2147483640, 2147483640, 0, 0, 2147483627, 0, 2147483619, 0, 0, 0);
+    COMPARE_QUADRATIC(negated, sizeof negated, sample, LENGTH, imaginary, 2, greatest, 2, PLACES,
+                      0, 0, 0, 1);
+    SHEET(2147483642, 2147483642, 2147483640, 2147483640, 0, 0, 2147483627, 0, 2147483619, 0, 0, 0);
     COMPARE_QUADRATIC(sample, LENGTH, other, LENGTH, imaginary, 2, greatest, 2, 12, 0, 0, 0, 0);
     SHEET(2147483641, 2147483641, 2147483640, 2147483640, 0, 0, 2147483623, 0, 2147483619, 0, 0, 0);
     COMPARE_QUADRATIC(sample, LENGTH, empty, sizeof empty, imaginary, 2, greatest, 2, PLACES,
@@ -441,6 +569,45 @@ static void compare_quadratic_calls(void)
     UNTOUCHED();
 }
 
+static void move_calls(void)
+{
+    uint8_t there[SCALED_LENGTH], back[LENGTH];
+    memcpy(there, scaled, SCALED_LENGTH);
+    memcpy(back, sample, LENGTH);
+    MOVED(morgana_move(sample, LENGTH, buffer, BYTES), 0, 0, SCALED_LENGTH);
+    COPIED(there);
+    MOVED(morgana_move(sample, LENGTH, buffer, SCALED_LENGTH), 0, 0, SCALED_LENGTH);
+    COPIED(there);
+    MOVED(morgana_move(scaled, SCALED_LENGTH, buffer, BYTES), 0, 0, LENGTH);
+    COPIED(back);
+    MOVED(morgana_move(scaled, SCALED_LENGTH, buffer, LENGTH), 0, 0, LENGTH);
+    COPIED(back);
+    uint8_t plain[sizeof single];
+    memcpy(plain, single, sizeof single);
+    plain[0] = 7;
+    MOVED(morgana_move(single, sizeof single, buffer, BYTES), 0, 0, sizeof single);
+    COPIED(plain);
+    MOVED(morgana_move(plain, sizeof plain, buffer, BYTES), 0, 0, sizeof plain);
+    COPIED(single);
+    MOVED(morgana_move(NULL, 0, NULL, 0), REFUSED(MORGANA_RECORD_INCOMPLETE, 0));
+    MOVED(morgana_move(unknown, 1, buffer, BYTES), REFUSED(MORGANA_KIND_UNKNOWN, 0));
+    UNCOPIED();
+    MOVED(morgana_move(scaled, SCALED_LENGTH + 1, buffer, 0), REFUSED(MORGANA_BYTES_AFTER_END, 61));
+    UNCOPIED();
+    MOVED(morgana_move(negated, sizeof negated, buffer, 0), REFUSED(MORGANA_FACTOR_NOT_ONE, 30));
+    UNCOPIED();
+    there[56] = 2;
+    MOVED(morgana_move(there, sizeof there, buffer, BYTES), REFUSED(MORGANA_FACTOR_NOT_ONE, 45));
+    UNCOPIED();
+    MOVED(morgana_move(sample, LENGTH, buffer, SCALED_LENGTH - 1),
+          REFUSED(MORGANA_BUFFER_TOO_SHORT, SCALED_LENGTH));
+    UNCOPIED();
+    MOVED(morgana_move(scaled, SCALED_LENGTH, buffer, LENGTH - 1),
+          REFUSED(MORGANA_BUFFER_TOO_SHORT, LENGTH));
+    UNCOPIED();
+    MOVED(morgana_move(sample, LENGTH, NULL, 0), REFUSED(MORGANA_BUFFER_TOO_SHORT, SCALED_LENGTH));
+}
+
 int main(void)
 {
     numbers();
@@ -451,6 +618,7 @@ int main(void)
     compare_calls();
     evaluate_quadratic_calls();
     compare_quadratic_calls();
+    move_calls();
     if (faults > 0)
         return EXIT_FAILURE;
     printf("interface: %u numbers are as wanted\n", held);

@@ -1,6 +1,6 @@
 //! The safe functions give each field of the library's replies its name.
 
-use morgana::{cell, check, compare, compare_quadratic, evaluate, evaluate_quadratic};
+use morgana::{cell, check, compare, compare_quadratic, evaluate, evaluate_quadratic, moved};
 use morgana::{CompareRefusal, Compared, Refusal, Which, P};
 use morgana::{KEY_LIMIT, MOST_ARRAYS, MOST_BITS, SHEET, SHEET_QUADRATIC, VERSION};
 
@@ -9,6 +9,18 @@ const SAMPLE: [u8; 53] = [
     1, 1, 1, 2, 0, 1, 4, 0, 0, 0, 0, 1, 0, 0, 0, 5, 0, 0, 0, 7, 0, 0, 0, 0, 0, 0, 0, 3, 1, 1, 5, 0,
     0, 0, 0, 0, 0, 0, 0, 0, 0, 5, 0, 0, 0, 0, 0, 0, 0, 0, 0, 0, 6,
 ];
+
+/// The sample in edition 2, with these factors.
+fn scaled(first: u32, second: u32) -> Vec<u8> {
+    let mut key = SAMPLE[..30].to_vec();
+    key[0] = 7;
+    for factor in [first, second] {
+        key.extend([8, 0, 0, 0, 0, 0, 0, 0, 0, 0, 0]);
+        key.extend(factor.to_le_bytes());
+    }
+    key.push(6);
+    key
+}
 
 /// A key of the sample's shape whose matrices are zero.
 const EMPTY: [u8; 7] = [1, 1, 1, 2, 1, 1, 6];
@@ -182,11 +194,81 @@ fn a_refused_call_leaves_the_sheet() {
 fn compare_names_the_key_at_fault() {
     let other = [1, 0, 1, 2, 0, 1, 6];
     for (first, second, which, wanted) in [
-        (&SAMPLE[..52], &[7][..], Which::First, (2, 52)),
-        (&SAMPLE, &[7], Which::Second, (3, 0)),
+        (&SAMPLE[..52], &[9][..], Which::First, (2, 52)),
+        (&SAMPLE, &[9], Which::Second, (3, 0)),
         (&SAMPLE, &other, Which::Neither, (35, 0)),
     ] {
         let answer = compare(first, second, &[3], &[4], &mut [0; 6]);
         assert_eq!(compared(answer), Err((which, wanted)));
     }
+}
+
+#[test]
+fn moved_answers_the_length_and_writes_the_copy() {
+    for (key, copy) in [
+        (SAMPLE.to_vec(), scaled(1, 1)),
+        (scaled(1, 1), SAMPLE.to_vec()),
+        (EMPTY.to_vec(), [&[7], &EMPTY[1..]].concat()),
+    ] {
+        let mut buffer = [9; 64];
+        assert_eq!(moved(&key, &mut buffer), Ok(copy.len()));
+        assert_eq!(buffer[..copy.len()], copy);
+        assert_eq!(buffer[copy.len()..], [9; 64][copy.len()..]);
+        let mut buffer = vec![9; copy.len()];
+        assert_eq!(moved(&key, &mut buffer), Ok(copy.len()));
+        assert_eq!(buffer, copy);
+    }
+}
+
+#[test]
+fn a_refused_move_leaves_the_buffer() {
+    // 4,368 calls and what else makes 65,536 bytes in edition 2, and three more.
+    let calling = |arrays: usize| {
+        let called = [&[5][..], &[0; 10]].concat().repeat(4368);
+        let openings = [2, 0, 0].repeat(arrays);
+        [&[1, 0, 0][..], &openings, &[3, 0, 0], &called, &[6]].concat()
+    };
+    let mut buffer = vec![9; KEY_LIMIT];
+    for (key, length, wanted) in [
+        (vec![], KEY_LIMIT, (2, 0)),
+        (scaled(1, 1)[..60].to_vec(), KEY_LIMIT, (2, 60)),
+        (scaled(2, P), 0, (8, 45)),
+        (scaled(2, 2), 0, (55, 30)),
+        (scaled(1, P - 1), KEY_LIMIT, (55, 45)),
+        (calling(4), 0, (56, 65_539)),
+        (calling(3), KEY_LIMIT - 1, (32, 65_536)),
+        (SAMPLE.to_vec(), 60, (32, 61)),
+        (scaled(1, 1), 52, (32, 53)),
+    ] {
+        let answer = moved(&key, &mut buffer[..length]);
+        assert_eq!(answer.map_err(told), Err(wanted));
+        assert!(buffer.iter().all(|byte| *byte == 9));
+    }
+    let full = calling(3);
+    assert_eq!(moved(&full, &mut buffer), Ok(KEY_LIMIT));
+    let mut back = vec![0; full.len()];
+    assert_eq!(moved(&buffer, &mut back), Ok(full.len()));
+    assert_eq!(back, full);
+}
+
+#[test]
+fn every_call_takes_both_editions() {
+    let mut sheet = LENT;
+    let scaled = scaled(P - 1, 3);
+    assert_eq!(check(&scaled), check(&SAMPLE));
+    let values = evaluate(&scaled, &[3], &[4], &mut sheet).expect("the point fits");
+    assert_eq!(values.values.a, 2147483567);
+    assert_eq!(sheet[..6], [20, 28, 0, 2147483567, 2147483535, 0]);
+    let values = cell(&scaled, 0, 1, &mut sheet).expect("the cell is there");
+    assert_eq!(values.values.b, 14);
+    for (first, second) in [(&SAMPLE[..], &scaled[..]), (&scaled, &SAMPLE)] {
+        let same = compare(first, second, &[3], &[4], &mut sheet);
+        assert_eq!(compared(same), Ok(true));
+        let same = compare_quadratic(first, second, &[3, 1], &[4, 2], &mut [0; 12]);
+        assert_eq!(compared(same), Ok(true));
+    }
+    let different = compare(&scaled, &EMPTY, &[3], &[4], &mut sheet);
+    assert_eq!(compared(different), Ok(false));
+    let values = evaluate_quadratic(&scaled, &[3, 1], &[4, 2], &mut [0; 12]).expect("it fits");
+    assert_eq!((values.values.a.u, values.values.a.v), (P - 60, P - 80));
 }

@@ -10,10 +10,12 @@ use cases::{compare_outcome, outcome, outcomes, run, Case};
 use generator::damage::mostly_damaged;
 use generator::inputs::{point, sheet, short_sheet, Drawn};
 use generator::keys::{any, small, wide};
+use generator::moves::to_move;
 use generator::random::Random;
 use generator::variants::{arrays, second, shape};
 use independent::calls::{self, matrix_values, pass_values, place_values};
 use independent::dense::unroll_places;
+use independent::edition::moved;
 use independent::field::{elements, Field, Fp, Quadratic};
 use independent::key::{read, Key};
 use independent::pass;
@@ -144,6 +146,33 @@ fn field_of_p_squared() {
         assert_eq!(none, 0);
         assert_eq!(norm == 0, [u, v] == [0, 0]);
     }
+}
+
+/// A moved key has the same arrays, and so every array has the same values; there and back gives the first bytes.
+#[test]
+fn moved_keys_have_the_same_values() {
+    let wanted = outcomes(&["accepted"], &[("refused", 1..=1), ("refused", 55..=56)]);
+    run("moved", 3_000, &wanted, |random| {
+        let key = bytes(&to_move(random));
+        let mut buffer = vec![0; 65_536];
+        let answer = moved(&key, &mut buffer);
+        let mut case = Case::new(&[&key], String::new(), outcome(&answer));
+        let Ok(length) = answer else {
+            return case;
+        };
+        let copy = &buffer[..length];
+        let [one, other] = [&key[..], copy].map(|key| read(key).expect("the key is accepted"));
+        case.hold("edition", one.edition == other.edition, false);
+        case.hold("arrays", &one.arrays, &other.arrays);
+        let (rows, columns) = point(random, one.rows as usize, one.columns as usize);
+        let got = pass_values::<Factors<Fp>>(copy, &other, &rows, &columns);
+        let wanted = pass_values::<Factors<Fp>>(&key, &one, &rows, &columns);
+        case.hold("values", got, wanted);
+        let mut back = vec![0; key.len()];
+        case.hold("moved back", moved(copy, &mut back), Ok(key.len()));
+        case.hold("there and back", &back, &key);
+        case
+    });
 }
 
 /// The check written for speed answers as the plain one.

@@ -22,6 +22,8 @@ typedef struct Key {
     const char *name;
     uint32_t number;
     uint8_t row_bits, column_bits;
+    uint32_t factor; /* of each call in edition 2; 0 in edition 1 */
+    size_t calls;
     size_t length;
     uint8_t bytes[MORGANA_KEY_LIMIT + 1];
 } Key;
@@ -32,7 +34,7 @@ static void put(Key *key, uint32_t number, int bytes)
         key->bytes[key->length++] = (uint8_t)(number >> 8 * i);
 }
 
-/* A head or an opening, of kind 1, 2 or 3. */
+/* A head or an opening, of kind 1, 2, 3 or 7. */
 static void opening(Key *key, int kind, uint8_t row_bits, uint8_t column_bits)
 {
     put(key, (uint32_t)kind, 1);
@@ -59,11 +61,13 @@ static void cells(Key *key, int count)
 
 static void calls(Key *key, int count, uint16_t called)
 {
-    for (int i = 0; i < count; i++) {
-        put(key, 5, 1);
+    for (int i = 0; i < count; i++, key->calls++) {
+        put(key, key->factor != 0 ? 8 : 5, 1);
         put(key, called, 2);
         put(key, (uint32_t)i % 2, 4);
         put(key, (uint32_t)i / 2 % 2, 4);
+        if (key->factor != 0)
+            put(key, key->factor, 4);
     }
 }
 
@@ -75,12 +79,14 @@ static void empties(Key *key, int count)
 
 /* The keys. The code takes tables of other sizes for keys below 192 bytes, and other tables of
  * weights where enough bits are weighed, but never below 88 bytes. */
-enum { MOST_KEYS = 20 };
+enum { MOST_KEYS = 24 };
 static Key keys[MOST_KEYS];
 static int key_count;
 
 static Key *start(const char *name, uint32_t number, uint8_t row_bits, uint8_t column_bits)
 {
+    if (key_count == MOST_KEYS)
+        abort();
     Key *key = &keys[key_count++];
     key->name = name;
     key->number = number;
@@ -88,6 +94,14 @@ static Key *start(const char *name, uint32_t number, uint8_t row_bits, uint8_t c
     key->column_bits = column_bits;
     opening(key, 1, row_bits, column_bits);
     return key;
+}
+
+/* Makes a key whose head alone is there one of edition 2, unless the factor is 0. */
+static void scale(Key *key, uint32_t factor)
+{
+    key->factor = factor;
+    if (factor != 0)
+        key->bytes[0] = 7;
 }
 
 /* A key of one array of cells. */
@@ -100,9 +114,10 @@ static void of_cells(const char *name, uint8_t row_bits, uint8_t column_bits, in
 }
 
 /* A key of so many empty arrays, one of one cell without bits, and one that calls it. */
-static Key *of_calls(const char *name, int empty, int count)
+static Key *of_calls(const char *name, int empty, int count, uint32_t factor)
 {
     Key *key = start(name, 0, MORGANA_MOST_BITS, MORGANA_MOST_BITS);
+    scale(key, factor);
     empties(key, empty);
     opening(key, 2, 0, 0);
     opening(key, 3, MORGANA_MOST_BITS, MORGANA_MOST_BITS);
@@ -112,9 +127,10 @@ static Key *of_calls(const char *name, int empty, int count)
 }
 
 /* A key whose array i has i row and i column bits and calls the one before four times. */
-static void tower(void)
+static void tower(const char *name, uint32_t factor)
 {
-    Key *key = start("a tower of 30 levels", 0, MORGANA_MOST_BITS, MORGANA_MOST_BITS);
+    Key *key = start(name, 0, MORGANA_MOST_BITS, MORGANA_MOST_BITS);
+    scale(key, factor);
     opening(key, 2, 0, 0);
     put(key, 4, 1);
     for (uint32_t field = 0; field < 5; field++)
@@ -129,12 +145,14 @@ static void tower(void)
 /* Keys of as many bytes as a key may have, and one of as many arrays. */
 static void full(void)
 {
-    Key *with_calls = of_calls("calls to the limit", 7, 5955);
+    Key *with_calls = of_calls("calls to the limit", 7, 5955, 0);
+    Key *with_scaled_calls = of_calls("scaled calls to the limit", 2, 4368, 1);
     Key *with_cells = start("cells to the limit", 0, MORGANA_MOST_BITS, MORGANA_MOST_BITS);
     empties(with_cells, 4);
     cells(with_cells, 3120);
     put(with_cells, 6, 1);
-    if (with_calls->length != MORGANA_KEY_LIMIT || with_cells->length != MORGANA_KEY_LIMIT)
+    if (with_calls->length != MORGANA_KEY_LIMIT || with_cells->length != MORGANA_KEY_LIMIT ||
+        with_scaled_calls->length != MORGANA_KEY_LIMIT)
         abort();
     Key *key = start("1,024 arrays", 0, MORGANA_MOST_BITS, MORGANA_MOST_BITS);
     empties(key, MORGANA_MOST_ARRAYS);
@@ -160,13 +178,16 @@ static void build(void)
 {
     of_cells("an empty array without bits", 0, 0, 0);
     of_cells("3 cells", 30, 30, 3);
-    of_calls("5 calls", 0, 5);
+    of_calls("5 calls", 0, 5, 0);
+    of_calls("4 scaled calls", 0, 4, MORGANA_P - 1);
     of_cells("8 cells", 30, 30, 8);
-    of_calls("16 calls", 0, 16);
+    of_calls("16 calls", 0, 16, 0);
+    of_calls("12 scaled calls", 0, 12, 1);
     of_cells("9 cells", 30, 30, 9);
     of_cells("100 cells", 30, 30, 100);
     of_cells("100 cells without row bits", 0, 30, 100);
-    tower();
+    tower("a tower of 30 levels", 0);
+    tower("a scaled tower of 30 levels", MORGANA_P - 1);
     full();
     refused();
 }
@@ -180,6 +201,8 @@ static const uint32_t fault_numbers[FAULTS] = {
 static uint32_t rows[2 * MORGANA_MOST_BITS], columns[2 * MORGANA_MOST_BITS];
 static uint32_t sheet[MORGANA_SHEET_QUADRATIC];
 static size_t rows_length, columns_length, sheet_length;
+static uint8_t buffer[MORGANA_KEY_LIMIT];
+static size_t buffer_length;
 
 static void lend(const Key *key, size_t numbers, int fault)
 {
@@ -221,6 +244,11 @@ static void cell(void)
     got = morgana_cell(first->bytes, first->length, row, 0, sheet, sheet_length).number;
 }
 
+static void move(void)
+{
+    got = morgana_move(first->bytes, first->length, buffer, buffer_length).number;
+}
+
 static void compare(void)
 {
     got = morgana_compare(first->bytes, first->length, second->bytes, second->length, rows,
@@ -248,10 +276,11 @@ typedef struct Call {
     const Key *first, *second;
 } Call;
 
-enum { CHECK, CELL, EVALUATE, EVALUATE_QUADRATIC, COMPARE, COMPARE_QUADRATIC, CALLS };
+enum { CHECK, CELL, MOVE, EVALUATE, EVALUATE_QUADRATIC, COMPARE, COMPARE_QUADRATIC, CALLS };
 static Call all[CALLS] = {
     {.name = "morgana_check", .run = check, .numbers = 1},
     {.name = "morgana_cell", .run = cell, .numbers = 1},
+    {.name = "morgana_move", .run = move, .numbers = 1},
     {.name = "morgana_evaluate", .run = evaluate, .numbers = 1},
     {.name = "morgana_evaluate_quadratic", .run = evaluate_quadratic, .numbers = 2},
     {.name = "morgana_compare", .run = compare, .numbers = 1},
@@ -332,6 +361,20 @@ static void hold(Call *call, uint32_t wanted)
     }
 }
 
+/* What the move of a key into so many bytes gives. */
+static uint32_t move_number(const Key *key)
+{
+    size_t more = 4 * key->calls;
+    size_t length = key->factor != 0 ? key->length - more : key->length + more;
+    if (key->number != 0)
+        return key->number;
+    if (key->factor > 1)
+        return MORGANA_FACTOR_NOT_ONE;
+    if (length > MORGANA_KEY_LIMIT)
+        return MORGANA_MOVED_TOO_LONG;
+    return length > buffer_length ? MORGANA_BUFFER_TOO_SHORT : MORGANA_NOT_REFUSED;
+}
+
 /* Every call of one key on a key, with each fault that the key has room for. */
 static void hold_key(const Key *key)
 {
@@ -342,6 +385,8 @@ static void hold_key(const Key *key)
     hold(&all[CELL], key->number);
     row = 1u << key->row_bits;
     hold(&all[CELL], key->number != 0 ? key->number : MORGANA_ADDRESS_OUTSIDE);
+    for (buffer_length = 1; buffer_length <= sizeof buffer; buffer_length *= sizeof buffer)
+        hold(&all[MOVE], move_number(key));
     for (int fault = RIGHT; fault < FAULTS; fault++) {
         if (fault == COORDINATE_WRONG && key->column_bits == 0)
             continue;

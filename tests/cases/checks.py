@@ -23,7 +23,7 @@ from .rules import (
 
 def check_first_faults(cases):
     """Checking stops at the first record with a fault, whatever the number of a later one."""
-    anywhere = {3: "bytes 07", 4: "head 3 3", 5: "sparse 4 3", 12: "end"}
+    anywhere = {3: "bytes 09", 4: "head 3 3", 5: "sparse 4 3", 12: "end"}
     cells = {7: "cell 0 4 0 0 0", 8: f"cell 0 0 0 0 {P}"}
     calls = {9: "call 2 0 0", 10: "call 0 0 0", 11: "call 1 0 2"}
     for front, faulty in (
@@ -68,11 +68,14 @@ def counted(records):
     """What an accepted key is answered with, by its records."""
     names = [name for name, _ in records]
     arrays = names.count("sparse") + names.count("recursive")
-    return accepted(arrays, names.count("cell"), names.count("call"), *records[0][1])
+    calls = names.count("call") + names.count("scaled_call")
+    return accepted(arrays, names.count("cell"), calls, *records[0][1])
 
 
 def check_sweep(cases, draw):
-    """Drawn keys, whole and with a field raised, a record moved, a byte changed or a byte removed."""
+    """Drawn keys of both editions, whole and with a field raised, a record moved, a byte changed or removed, or a fault of a
+    call or of the edition.
+    """
     for _ in range(50):
         records = drawn_key(draw)
         cases.check(key_words(encoded(records)), counted(records))

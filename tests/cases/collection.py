@@ -6,7 +6,7 @@ import itertools
 import struct
 
 from tests.draw.numbers import numbered
-from tests.model.calls import arithmetic, cell, check, compare, evaluate, put, take, valued
+from tests.model.calls import arithmetic, cell, check, compare, evaluate, move, put, take, valued
 from tests.model.fields import PRIME
 from tests.model.keys import read
 from tests.model.records import LAYOUT, Refusal
@@ -25,6 +25,7 @@ OPERATIONS = {
     "count": 10,
     "evaluate_quadratic": 11,
     "compare_quadratic": 12,
+    "move": 13,
 }
 
 
@@ -151,6 +152,20 @@ class Cases:
         counts = (*bits, len(values))
         self.add_pair("count", (first, second), (key(first), key(second)), behind, wanted, counts, values)
         return letters.count("S")
+
+    def move(self, text, length, wanted=None, shown=0):
+        """A move of a key in words into a buffer of so many bytes aa, of which those from an offset on are printed. `wanted`
+        is the refusal or the copy in words, where they are known without the model.
+        """
+        data, buffer = key(text), b"\xaa" * length
+        answer, after = move(data, buffer)
+        if wanted is not None:
+            refusal = wanted.startswith("refused")
+            copy = b"" if refusal else key(wanted)
+            agreed(wanted if refusal else f"length {len(copy)}", answer)
+            agreed(copy + buffer[len(copy) :], after)
+        behind = f" into {length} bytes aa" + (f", shown from {shown}" if shown else "")
+        self.add_keyed("move", text, data, behind, f"{answer} buffer {after[shown:].hex()}", (length, shown))
 
     def add_pair(self, operation, texts, keys, behind, wanted, counts, numbers):
         """One case of two keys."""

@@ -3,7 +3,7 @@
 import itertools
 import re
 
-from tests.draw.changes import damaged, nearly, rewritten
+from tests.draw.changes import damaged, in_other_edition, nearly, rewritten
 from tests.draw.keys import drawn_key, encoded
 from tests.draw.numbers import drawn_edges, drawn_point, numbered, spoiled
 from tests.model.dense import bits_of
@@ -135,12 +135,16 @@ def limit_cases(cases, draw):
 
 
 def sweep(cases, draw):
-    """Drawn keys against the same circuit written in another way, with one value changed, and damaged."""
-    for i in range(10):
+    """Drawn keys of both editions against the same circuit written in another way and in the other edition, with one value or
+    factor changed, and damaged.
+    """
+    for i in range(16):
         records = drawn_key(draw, 3)
         text, bits = key_words(encoded(records)), records[0][1]
         other = key_words(encoded(rewritten(draw, records)))
         cases.compare(*pair(i % 2, text, other), *drawn_point(draw, bits), "same")
+        moved = key_words(encoded(in_other_edition(records)))
+        cases.compare(*pair(i % 2, moved, other), *drawn_point(draw, bits), "same")
         changed = key_words(encoded(nearly(draw, records)))
         cases.compare(text, changed, *drawn_point(draw, bits))
         cases.compare(changed, text, *drawn_edges(draw, bits))

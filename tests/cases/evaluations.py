@@ -3,7 +3,7 @@
 import itertools
 
 from tests.draw.changes import damaged
-from tests.draw.keys import drawn_call, drawn_cell, drawn_key, encoded
+from tests.draw.keys import DRAWN_CALLS, drawn_call, drawn_cell, drawn_key, drawn_scaled_call, encoded
 from tests.draw.numbers import drawn_edges, drawn_place, drawn_point
 from tests.model.dense import bits_of
 from tests.model.fields import P, TOP
@@ -162,26 +162,47 @@ def fibonacci_case(cases, draw):
 
 
 def longest_keys(draw):
-    """Keys of 65,536 bytes of few arrays in words: one of cells alone, and one of cells and calls."""
+    """Keys of 65,536 bytes of few arrays in words: one of cells alone, one of cells and calls, and one of edition 2."""
     cells = ", ".join(f"52 times {words(*drawn_cell(draw, (30, 30)))}" for _ in range(60))
     yield f"head 30 30, 4 times sparse 30 30, {cells}, end"
     cells = ", ".join(f"101 times {words(*drawn_cell(draw, (14, 15)))}" for _ in range(20))
     inner = ", ".join(f"100 times {words(*drawn_call(draw, (20, 21), 1, (14, 15)))}" for _ in range(10))
     outer = ", ".join(f"100 times {words(*drawn_call(draw, (30, 30), 2, (20, 21)))}" for _ in range(11))
     yield f"head 30 30, sparse 0 0, sparse 14 15, {cells}, recursive 20 21, {inner}, recursive 30 30, {outer}, end"
+    inner = ", ".join(f"70 times {words(*drawn_scaled_call(draw, (20, 21), 1, (14, 15)))}" for _ in range(10))
+    outer = ", ".join(f"84 times {words(*drawn_scaled_call(draw, (30, 30), 2, (20, 21)))}" for _ in range(10))
+    yield f"scaled_head 30 30, sparse 0 0, sparse 14 15, {cells}, recursive 20 21, {inner}, recursive 30 30, {outer}, end"
 
 
-def widest_key(draw):
-    """The records of a key of 65,536 bytes and 1,024 arrays: nine of one cell, and the rest of five calls or six."""
+# How many arrays of the key below have one cell, which is the first with fewer calls, and how many the ones before have.
+WIDEST = {"head": (9, 595, 6), "scaled_head": (10, 104, 5)}
+
+
+def widest_key(draw, name):
+    """The records of a key of 65,536 bytes and 1,024 arrays with a head of this name: the first of one cell, and the rest of
+    several calls, the later of one call fewer.
+    """
+    sparse, fewer, most = WIDEST[name]
     bits = [(0, 0), *(tuple(draw.below(n + 1) for n in (2, 1)) for _ in range(1022)), (2, 1)]
-    records = [("head", (2, 1))]
+    records = [(name, (2, 1))]
     for i, own in enumerate(bits):
-        records.append(("sparse" if i < 9 else "recursive", own))
-        for _ in range(1 if i < 9 else 6 if i < 595 else 5):
+        records.append(("sparse" if i < sparse else "recursive", own))
+        for _ in range(1 if i < sparse else most - (i >= fewer)):
             called = draw.below(max(i, 1))
             called = 0 if larger(bits[called], own) else called
-            records.append(drawn_cell(draw, own) if i < 9 else drawn_call(draw, own, called, bits[called]))
+            call = DRAWN_CALLS[name](draw, own, called, bits[called])
+            records.append(drawn_cell(draw, own) if i < sparse else call)
     return [*records, ("end", ())]
+
+
+def widest_case(cases, draw, name):
+    """A key of 65,536 bytes and 1,024 arrays with a head of this name."""
+    data = encoded(widest_key(draw, name))
+    if len(data) != 65536:
+        raise ValueError(f"a key of {len(data)} bytes")
+    text, sheet = f"a drawn key of 65536 bytes and 1024 arrays behind a {name}", [TOP] * 3072 + [1, 2]
+    cases.evaluate(key_words(data), *drawn_point(draw, (2, 1)), sheet=sheet, name=text)
+    cases.cell(key_words(data), 3, 1, sheet=sheet, name=text)
 
 
 def limit_cases(cases, draw):
@@ -189,16 +210,12 @@ def limit_cases(cases, draw):
     for text in longest_keys(draw):
         cases.evaluate(text, *drawn_point(draw, (30, 30)))
         cases.cell(text, 2**30 - 1, 2**30 - 1)
-    data = encoded(widest_key(draw))
-    if len(data) != 65536:
-        raise ValueError(f"a key of {len(data)} bytes")
-    name, sheet = "a drawn key of 65536 bytes and 1024 arrays", [TOP] * 3072 + [1, 2]
-    cases.evaluate(key_words(data), *drawn_point(draw, (2, 1)), sheet=sheet, name=name)
-    cases.cell(key_words(data), 3, 1, sheet=sheet, name=name)
+    for name in WIDEST:
+        widest_case(cases, draw, name)
 
 
 def sweep(cases, draw):
-    """Drawn keys, whole and damaged, at points and at places."""
+    """Drawn keys of both editions, whole and damaged, at points and at places."""
     for _ in range(60):
         records = drawn_key(draw, 7, 1)
         text, bits = key_words(encoded(records)), records[0][1]

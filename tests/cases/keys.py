@@ -1,5 +1,7 @@
 """The keys in words that several lists of cases are about, and short words for others."""
 
+import re
+
 from tests.model.fields import P
 from tests.model.words import joined, words
 
@@ -79,7 +81,7 @@ THREE = "head 1 0, sparse 0 0, cell 0 0 1 2 3, recursive 1 0, sparse 1 0, cell 1
 FAULTY = {
     1: ("65537 times bytes 00", 65536),
     2: ("head 1 0, sparse 1 0, cell 0 0 1 2 3", 27),
-    3: ("head 1 0, sparse 1 0, bytes 07, end", 6),
+    3: ("head 1 0, sparse 1 0, bytes 09, end", 6),
     4: ("head 1 0, sparse 1 0, call 0 0 0, end", 6),
     5: ("head 1 0, sparse 2 0, sparse 1 0, end", 3),
     6: ("head 1 0, 1025 times sparse 1 0, end", 3075),
@@ -104,6 +106,12 @@ def pair(axis, x, other):
 def single(bits, place, values):
     """A key of one cell in words."""
     return f"{words('head', bits)}, {words('sparse', bits)}, {words('cell', (*place, *values))}, end"
+
+
+def scaled(text, factor=1):
+    """A key of edition 1 in words as one of edition 2 whose calls have this factor; what is in bytes stays."""
+    text = re.sub(r"\bhead (\d+ \d+)", r"scaled_head \1", text)
+    return re.sub(r"\bcall (\d+ \d+ \d+)", rf"scaled_call \1 {factor}", text)
 
 
 def keyed(arrays):

@@ -11,6 +11,8 @@ from .collection import Cases
 from .comparison_refusals import comparison_refusals
 from .comparisons import comparison_cases
 from .counts import count_cases
+from .editions.quadratic import edition_cases as quadratic_edition_cases
+from .editions.sweep import edition_cases
 from .evaluations import evaluation_cases
 from .quadratic.sweep import quadratic_cases
 from .records import put_cases, take_cases
@@ -31,13 +33,15 @@ def public_cases():
     comparison_cases(cases, draw)
     comparison_refusals(cases, draw)
     count_cases(cases, draw)
+    edition_cases(cases, draw)
     return cases
 
 
 def cases_over_p_squared():
     """All cases of the public calls over p², with numbers drawn apart from those of the other programs."""
-    cases = Cases()
-    quadratic_cases(cases, Draw())
+    cases, draw = Cases(), Draw()
+    quadratic_cases(cases, draw)
+    quadratic_edition_cases(cases, draw)
     return cases
 
 

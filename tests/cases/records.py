@@ -1,5 +1,5 @@
 """The cases of taking a record from bytes and of putting one into a buffer: 01, 'Records' and 'Single cells, and writing
-records'.
+records', and 02, E9.
 """
 
 from tests.model.fields import P
@@ -25,7 +25,9 @@ def take_cases(cases, draw):
     cases.take(bytes.fromhex("01ffff"), 0, "head 255 255 next 3")
     cases.take(bytes.fromhex("0400000000010000000500000007000000ffffff7f"), 0, f"cell 0 1 5 7 {P} next 21")
     cases.take(bytes.fromhex("05000001000000000000ff"), 0, f"call 0 1 {255 * 2**24} next 11")
-    for kind in (0, 7, 8, 16, 17, 0x40, 255):
+    cases.take(bytes.fromhex("07ffff"), 0, "scaled_head 255 255 next 3")
+    cases.take(bytes.fromhex("080000010000000000000000000080ff"), 0, f"scaled_call 0 1 0 {2**31} next 15")
+    for kind in (0, 9, 10, 16, 17, 0x40, 255):
         cases.take(bytes([kind]), 0, refused(3, 0))
         cases.take(bytes([6, kind]) + bytes(30), 1, refused(3, 1))
     for kind, fields in samples():
@@ -38,7 +40,7 @@ def take_cases(cases, draw):
     # The limit of 65,536 bytes is the key's, not take's.
     cases.take(encode(5, (1, 2, 3)), 65540, "call 1 2 3 next 65551", zeros=65540)
     for _ in range(80):
-        data = bytes(draw.below(7) or draw.below(256) for _ in range(draw.below(40)))
+        data = bytes(draw.below(9) or draw.below(256) for _ in range(draw.below(40)))
         cases.take(data, draw.below(len(data) + 2))
 
 
@@ -60,7 +62,7 @@ def put_cases(cases, draw):
         cases.put(kind, fields, b"\xaa" * (length - 1), length, refused(33, length - 1))
     cases.put(5, (1, 2, 3), b"\xaa" * 24, 65540, "next 65551", zeros=65535)
     for _ in range(60):
-        kind = 1 + draw.below(6)
+        kind = 1 + draw.below(8)
         fields = tuple(draw.below(256**width) for width in LAYOUT[kind][1])
         data = draw.bytes(draw.below(48))
         cases.put(kind, fields, data, draw.below(len(data) + 3))

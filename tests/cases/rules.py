@@ -1,15 +1,15 @@
-"""The cases of check at the edges of each rule: 01, 'An accepted key' and 'Edges'."""
+"""The cases of check at the edges of each rule: 01, 'An accepted key' and 'Edges', and 02, E9."""
 
 import itertools
 
 from tests.model.fields import P, TOP
 from tests.model.words import accepted, byte_words, joined, key, refused, words
 
-from .keys import SAMPLE
+from .keys import SAMPLE, scaled
 
-# 01, 'An accepted key': beginnings of a key, and the records that may follow each.
+# 01, 'An accepted key': beginnings of a key of edition 1, and the records that may follow each.
 FOLLOWING = {
-    "": ("head",),
+    "": ("head", "scaled_head"),
     "head 1 1": ("sparse", "recursive"),
     "head 1 1, sparse 1 1": ("sparse", "recursive", "cell", "end"),
     "head 1 1, sparse 1 1, cell 1 1 1 2 3": ("sparse", "recursive", "cell", "end"),
@@ -17,6 +17,18 @@ FOLLOWING = {
     "head 1 1, sparse 1 1, recursive 1 1, call 0 0 0": ("sparse", "recursive", "call", "end"),
     "head 1 1, sparse 1 1, recursive 1 1, sparse 1 1": ("sparse", "recursive", "cell", "end"),
 }
+
+# A record of each kind that fits behind each beginning that allows its kind.
+RECORDS = (
+    "head 1 1",
+    "sparse 1 1",
+    "recursive 1 1",
+    "cell 0 0 0 0 0",
+    "call 0 0 0",
+    "end",
+    "scaled_head 1 1",
+    "scaled_call 0 0 0 1",
+)
 
 
 def check_limits(cases):
@@ -40,13 +52,18 @@ def check_limits(cases):
 
 
 def check_places(cases):
-    """Numbers 2, 3 and 4: no byte, an unknown kind, and each record, whole and cut, behind each beginning of a key."""
+    """Numbers 2, 3 and 4: no byte, an unknown kind, and each record, whole and cut, behind each beginning of a key of either
+    edition.
+    """
+    beginnings = dict(FOLLOWING)
     for front, following in FOLLOWING.items():
+        beginnings[scaled(front)] = ["scaled_call" if name == "call" else name for name in following]
+    for front, following in beginnings.items():
         place = len(key(front))
         cases.check(front, refused(2, place))
-        for unknown in ("bytes 00", "bytes 07", "bytes ff06"):
+        for unknown in ("bytes 00", "bytes 09", "bytes ff06"):
             cases.check(joined(front, unknown), refused(3, place))
-        for record in ("head 1 1", "sparse 1 1", "recursive 1 1", "cell 0 0 0 0 0", "call 0 0 0", "end"):
+        for record in RECORDS:
             length = len(key(record))
             if record.split()[0] not in following:
                 cases.check(joined(front, record), refused(4, place))

@@ -4,7 +4,8 @@ A tower begins with an array of one cell, and each level calls the array before 
 bit, 1 a column bit, None neither) and how often it calls at position 0 and, where it adds a bit, at position 1. So the
 dense value at a place is the cell's times one count for each level, which the bit of the place that the level added
 chooses. Summed over all places with their weights this is a product: the cell's value times, for each level, its first
-count times 1 - r and its second times r, r being the coordinate of the bit that it added.
+count times 1 - r and its second times r, r being the coordinate of the bit that it added. In edition 2 one call with the
+count as its factor stands for so many calls.
 """
 
 from tests.model.dense import numbers_of
@@ -20,19 +21,30 @@ def shapes(levels):
     return bits
 
 
-def calls(axis, counts, called):
-    """The calls of a level in words."""
-    for a, count in enumerate(counts):
-        yield times(count, words("call", (called, a * (axis == 0), a * (axis == 1))))
+def calls(called, down, right, count):
+    """So many calls of a level in words."""
+    return times(count, words("call", (called, down, right)))
 
 
-def tower(values, levels):
+def scaled_calls(called, down, right, count):
+    """The same as one call of edition 2."""
+    return words("scaled_call", (called, down, right, count))
+
+
+def tower(values, levels, head="head", level_calls=calls):
     """The key of a tower in words."""
     bits = shapes(levels)
-    items = [words("head", bits[-1]), "sparse 0 0", words("cell 0 0", values)]
+    items = [words(head, bits[-1]), "sparse 0 0", words("cell 0 0", values)]
     for i, (axis, counts) in enumerate(levels):
-        items.extend([words("recursive", bits[i + 1]), *calls(axis, counts, i)])
+        positions = ((a * (axis == 0), a * (axis == 1)) for a in range(len(counts)))
+        entries = (level_calls(i, *position, count) for position, count in zip(positions, counts))
+        items.extend([words("recursive", bits[i + 1]), *entries])
     return joined(*items, "end")
+
+
+def scaled_tower(values, levels):
+    """The key of a tower in words, in edition 2; its counts are below p."""
+    return tower(values, levels, "scaled_head", scaled_calls)
 
 
 def factor(axis, counts, bits, point):

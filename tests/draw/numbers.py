@@ -27,6 +27,11 @@ def drawn_below(draw, bound):
     return bound - 1 if draw.below(2) else draw.below(bound)
 
 
+def drawn_factor(draw):
+    """The factor of a call: 0, 1, 2, p - 1 or, one in five, any."""
+    return (0, 1, 2, P - 1, draw.below(P))[draw.below(5)]
+
+
 def drawn_point(draw, bits):
     """Row coordinates and column coordinates, as many as the bits."""
     return tuple([draw.below(P) for _ in range(n)] for n in bits)

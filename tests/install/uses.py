@@ -8,7 +8,7 @@ from .commands import ROOT, hold, printed, run
 from .places import soname_of
 
 EXAMPLE = "examples/c/compare.c"
-CALLS = ["version", "check", "cell"]
+CALLS = ["version", "check", "cell", "move"]
 CALLS += ["evaluate", "evaluate_quadratic", "compare", "compare_quadratic"]
 
 OLD = bytes.fromhex(

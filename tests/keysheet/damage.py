@@ -1,7 +1,7 @@
-"""Inputs of keysheet with a field at its limit, with records out of order, or with damaged bytes."""
+"""Inputs of keysheet with a field at its limit, with records out of order or of the other edition, or with damaged bytes."""
 
 from .drawn import draw_input, filled, many_arrays
-from .inputs import PRIME
+from .inputs import PRIME, Record, head, scaled_head
 
 
 def limits(records):
@@ -9,7 +9,7 @@ def limits(records):
     shapes = []
     opening = 0
     for i, record in enumerate(records):
-        if record.kind == 1:
+        if record.kind in (1, 7):
             yield from [(i, 0, 31), (i, 1, 31)]
         elif record.kind in (2, 3):
             opening = i
@@ -18,7 +18,8 @@ def limits(records):
         elif record.kind == 4:
             yield from [(i, axis, 2 ** shapes[-1][axis]) for axis in (0, 1)]
             yield from [(i, field, PRIME) for field in (2, 3, 4)]
-        elif record.kind == 5:
+        elif record.kind in (5, 8):
+            yield from [(i, 3, PRIME)] if record.kind == 8 else []
             called = shapes[record.fields[0]]
             yield (i, 0, len(shapes) - 1)
             yield from [(i, 1 + axis, 2 ** (shapes[-1][axis] - called[axis])) for axis in (0, 1)]
@@ -63,6 +64,21 @@ def shuffled(random, whole):
     return whole._replace(records=records)
 
 
+def mixed(random, whole):
+    """The input with a call of its key in the other edition, or with a second head of either."""
+    records = list(whole.records)
+    calls = [i for i, record in enumerate(records) if record.kind in (5, 8)]
+    if calls and random.random() < 0.6:
+        i = random.choice(calls)
+        kind, fields = records[i]
+        factor = random.choice([1, PRIME - 1, PRIME])
+        records[i] = Record(8, (*fields, factor)) if kind == 5 else Record(5, fields[:3])
+    else:
+        bits = random.choice([records[0].fields, (0, 0), (31, 31)])
+        records.insert(random.randint(1, len(records)), random.choice([head, scaled_head])(*bits))
+    return whole._replace(records=records)
+
+
 def damaged(random, data):
     """The bytes of an input, not none, with one byte changed, or cut, or with bytes appended."""
     place = random.randrange(len(data))
@@ -70,7 +86,7 @@ def damaged(random, data):
     if damage == "flip":
         return data[:place] + bytes([data[place] ^ 1 << random.randrange(8)]) + data[place + 1 :]
     if damage == "byte":
-        return data[:place] + bytes([random.choice([0, 1, 2, 3, 4, 5, 6, 7, 255])]) + data[place + 1 :]
+        return data[:place] + bytes([random.choice([0, 1, 2, 3, 4, 5, 6, 7, 8, 9, 255])]) + data[place + 1 :]
     if damage == "cut":
         return data[:place]
     return data + random.randbytes(random.choice([1, 1, 2, 30]))
@@ -90,8 +106,10 @@ def any_input(random):
         return at_a_limit(random, drawn).written()
     if chance < 0.75:
         return point_at_a_limit(random, drawn).written()
-    if chance < 0.85:
+    if chance < 0.82:
         return shuffled(random, drawn).written()
+    if chance < 0.85:
+        return mixed(random, drawn).written()
     if chance < 0.9:
         return shuffled(random, at_a_limit(random, drawn)).written()
     return damaged(random, drawn.written())

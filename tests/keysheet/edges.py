@@ -3,6 +3,7 @@
 from random import Random
 
 from .drawn import filled
+from .edition_edges import edition_edges
 from .inputs import ACCEPTED, END, PRIME, Case, Input, call, cell, head, recursive, refused, sparse
 from .key_edges import COLUMNS, RECORDS, ROWS, key_edges, keyed
 
@@ -92,9 +93,10 @@ def evaluations():
 
 
 def edges():
-    """Every case of this file and of the edges of keys."""
+    """Every case of this file, of the edges of keys and of those of editions."""
     yield from samples()
     yield from feeder_edges()
     yield from point_edges()
     yield from key_edges()
+    yield from edition_edges()
     yield from evaluations()

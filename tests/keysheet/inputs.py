@@ -4,7 +4,7 @@ import struct
 from typing import NamedTuple
 
 PRIME = 2**31 - 1
-FIELDS = {1: "BB", 2: "BB", 3: "BB", 4: "IIIII", 5: "HII", 6: ""}
+FIELDS = {1: "BB", 2: "BB", 3: "BB", 4: "IIIII", 5: "HII", 6: "", 7: "BB", 8: "HIII"}
 LARGEST = {"B": 2**8 - 1, "H": 2**16 - 1, "I": 2**32 - 1}
 
 
@@ -30,6 +30,11 @@ def head(row_bits, column_bits):
     return Record(1, (row_bits, column_bits))
 
 
+def scaled_head(row_bits, column_bits):
+    """A head of edition 2."""
+    return Record(7, (row_bits, column_bits))
+
+
 def sparse(row_bits, column_bits):
     """The opening of a sparse array."""
     return Record(2, (row_bits, column_bits))
@@ -48,6 +53,11 @@ def cell(row, column, a=1, b=0, c=0):
 def call(called, row_position=0, column_position=0):
     """A call of the array whose id is given."""
     return Record(5, (called, row_position, column_position))
+
+
+def scaled_call(called, row_position=0, column_position=0, factor=1):
+    """A call of edition 2."""
+    return Record(8, (called, row_position, column_position, factor))
 
 
 END = Record(6)

@@ -3,9 +3,9 @@
 from random import Random
 
 from .drawn import many_arrays
-from .inputs import ACCEPTED, END, PRIME, Case, Input, call, cell, head, recursive, refused, sparse
+from .inputs import ACCEPTED, END, PRIME, Case, Input, call, cell, head, recursive, refused, scaled_head, sparse
 
-# A key with one record of each kind: the place of each record, and the key's length, are in PLACES.
+# A key with one record of each kind of edition 1: the place of each record, and the key's length, are in PLACES.
 RECORDS = [head(3, 2), sparse(1, 1), cell(1, 1, PRIME - 1, PRIME - 1, PRIME - 1), recursive(3, 2), call(0, 3, 1), END]
 HEAD, SPARSE, CELL, RECURSIVE, CALL, LAST = range(6)
 PLACES = [0, 3, 6, 27, 30, 41, 42]
@@ -31,19 +31,20 @@ def record_edges():
     for length in range(PLACES[-1]):
         yield Case(whole[: key_start + length], refused(2, max(place for place in PLACES if place <= length)))
     for record, place in zip(RECORDS, PLACES):
-        for kind in (0, 7, record.kind + 8, record.kind + 128, 255):
+        for kind in (0, 9, record.kind + 8, record.kind + 128, 255):
             damaged = whole[: key_start + place] + bytes([kind])
             yield Case(damaged, refused(3, place))
             yield Case(damaged + whole[len(damaged) :], refused(3, place))
     for record in RECORDS[1:]:
         yield keyed([record, *RECORDS], refused(4, 0))
     for index in (SPARSE, CELL, RECURSIVE, CALL, LAST):
-        yield keyed([*RECORDS[:index], RECORDS[HEAD], *RECORDS[index:]], refused(4, PLACES[index]))
+        for second in (RECORDS[HEAD], scaled_head(3, 2)):
+            yield keyed([*RECORDS[:index], second, *RECORDS[index:]], refused(4, PLACES[index]))
     for record in (RECORDS[CELL], RECORDS[CALL], END):
         yield keyed([RECORDS[HEAD], record, *RECORDS[1:]], refused(4, 3))
     yield keyed([*RECORDS[:CALL], RECORDS[CELL], *RECORDS[CALL:]], refused(4, 30))
     yield keyed([*RECORDS[:CELL], RECORDS[CALL], *RECORDS[CELL:]], refused(4, 6))
-    for behind in (END, RECORDS[CELL], RECORDS[HEAD]):
+    for behind in (END, RECORDS[CELL], RECORDS[HEAD], scaled_head(3, 2)):
         yield keyed([*RECORDS, behind], refused(13, 42))
     for behind in (b"\0", b"\6", b"\xff" * 1000):
         yield Case(whole + behind, refused(13, 42))

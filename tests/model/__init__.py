@@ -5,6 +5,7 @@ the dense form, which is unrolled place by place.
 fields   the numbers: p, the field of p elements and that of p² elements
 records  the records of a key, and their bytes
 keys     when a key is accepted: the rules of its records
+editions a key moved into the other edition
 dense    weights, the dense form of each array, and its value at a point
 words    keys, numbers and answers in words
 calls    what each call answers

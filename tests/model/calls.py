@@ -1,8 +1,9 @@
-"""What each call answers, in words: its refusals in 01's order, and what it gives where nothing is refused."""
+"""What each call answers, in words: its refusals in the documents' order, and what it gives where nothing is refused."""
 
 import itertools
 
 from .dense import bits_of, dense, triples
+from .editions import moved
 from .fields import P, PRIME
 from .keys import read
 from .records import Refusal, encode, record_at
@@ -34,6 +35,17 @@ def put(kind, fields, data, at):
     if len(record) > len(data) - at:
         return refused(32, len(record)), data
     return f"next {at + len(record)}", data[:at] + record + data[at + len(record) :]
+
+
+def move(data, buffer):
+    """What moving a key into a buffer answers, and the buffer's bytes afterwards."""
+    try:
+        copy = moved(data)
+    except Refusal as refusal:
+        return refused(*refusal.args), buffer
+    if len(copy) > len(buffer):
+        return refused(32, len(copy)), buffer
+    return f"length {len(copy)}", copy + buffer[len(copy) :]
 
 
 def entry_count(name, arrays):

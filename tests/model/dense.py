@@ -1,5 +1,5 @@
 """Weights, the dense form of each array, which is unrolled place by place, and its value at a point (01, 'Weights' and
-'Dense form and evaluation').
+'Dense form and evaluation', and 02, E9).
 """
 
 import itertools
@@ -34,10 +34,10 @@ def contributions(array, arrays, forms):
         if array.name == "sparse":
             yield fields[:2], fields[2:]
         else:
-            called, *position = fields
+            called, *position, factor = fields
             down, right = (a * 2**K for a, K in zip(position, arrays[called].bits, strict=True))
             for (row, column), values in forms[called].items():
-                yield (row + down, column + right), values
+                yield (row + down, column + right), tuple(factor * x for x in values)
 
 
 def dense(arrays):

@@ -1,6 +1,6 @@
-"""The records of a key: their layout, and the bytes of one written and read (01, 'Records')."""
+"""The records of a key: their layout, and the bytes of one written and read (01, 'Records', and 02, E9)."""
 
-# 01, 'Records': each kind's name and the widths of its fields in bytes.
+# 01, 'Records', and 02, E9: each kind's name and the widths of its fields in bytes.
 LAYOUT = {
     1: ("head", (1, 1)),
     2: ("sparse", (1, 1)),
@@ -8,6 +8,8 @@ LAYOUT = {
     4: ("cell", (4, 4, 4, 4, 4)),
     5: ("call", (2, 4, 4)),
     6: ("end", ()),
+    7: ("scaled_head", (1, 1)),
+    8: ("scaled_call", (2, 4, 4, 4)),
 }
 KINDS = {name: kind for kind, (name, _) in LAYOUT.items()}
 

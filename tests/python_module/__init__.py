@@ -9,6 +9,7 @@ samples    keys whose numbers README.md gives, and others that the edges need
 keys       the edges of keys
 points     those of coordinates, rows and columns
 sheets     those of sheets
+moves      those of keys moved into the other edition
 answers    what answers and refusals are, and how the module describes itself
 chances    random points, and the likelihood that keys that differ pass
 threads    calls in several threads at once

@@ -15,7 +15,7 @@ RUST_CONSTANTS = ROOT / "host/src/constants.rs"
 REASONS = ROOT / "crates/refusal/src/lib.rt"
 CONSTANTS = ("P", "KEY_LIMIT", "MOST_ARRAYS", "MOST_BITS", "SHEET", "SHEET_QUADRATIC")
 # Numbers of the crates that no call of the C interface gives.
-OTHERS = {32, 33, 34, 41, 42}
+OTHERS = {33, 34, 41, 42}
 TYPES = {"uint32_t": ctypes.c_uint32, "uint64_t": ctypes.c_uint64, "size_t": ctypes.c_size_t}
 POINTERS = {"uint8_t": ctypes.c_char_p, "uint32_t": ctypes.POINTER(ctypes.c_uint32)}
 

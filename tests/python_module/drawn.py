@@ -1,13 +1,17 @@
-"""Drawn keys, points and sheets, whole and faulty, answered by the module and by tests/model."""
+"""Drawn keys of both editions, points and sheets, whole and faulty, answered by the module and by
+tests/model.
+"""
 
 import collections
 import re
 
-from tests.draw.changes import damaged, nearly, rewritten
-from tests.draw.keys import drawn_key, encoded
+from tests.draw.changes import damaged, in_other_edition, nearly, rewritten
+from tests.draw.keys import drawn_key, encoded, many_calls
 from tests.draw.numbers import Draw, drawn_edges, drawn_place, drawn_point, numbered, spoiled
 from tests.model import calls as model
+from tests.model.editions import moved
 from tests.model.fields import PRIME, QUADRATIC
+from tests.model.records import Refusal
 from tests.model.words import accepted, outcome, refused
 
 from . import forms
@@ -24,6 +28,7 @@ OUTCOMES = {
     "compare": ("same", "different", *KEY_FAULTS, 35, 21, 22, 23, 31),
     "evaluate_quadratic": ("accepted", *KEY_FAULTS, 21, 22, 23, 31),
     "compare_quadratic": ("same", "different", *KEY_FAULTS, 35, 21, 22, 23, 31),
+    "moved": ("accepted", *KEY_FAULTS, 55, 56),
 }
 WHICH = {1: "first ", 2: "second ", None: "neither "}
 
@@ -34,7 +39,9 @@ def numbers_of(value):
 
 
 def in_words(answer):
-    """What the module answers, as tests/model words it."""
+    """What the module answers, as tests/model words it; a moved key as its bytes."""
+    if isinstance(answer, bytes):
+        return answer.hex()
     if isinstance(answer, morgana.Counts):
         return accepted(answer.arrays, answer.cells, answer.calls, answer.rows, answer.columns)
     if isinstance(answer, morgana.Compared):
@@ -57,13 +64,22 @@ def kind_of(words):
     return int(number[1]) if number else words if words in ("same", "different") else "accepted"
 
 
+def moved_words(data):
+    """What moving a key answers: the copy's bytes, or the refusal."""
+    try:
+        return moved(data).hex()
+    except Refusal as refusal:
+        return refused(*refusal.args)
+
+
 def beyond(draw, records):
-    """The bytes of a key that is too long and of one that has too many arrays, for one key in ten,
-    as they take long.
+    """The bytes of a key that is too long, of one that has too many arrays, and of one that is too
+    long when it is moved, for one key in ten, as they take long.
     """
     if draw.below(10) == 0:
         yield encoded(records) + bytes(65536)
         yield encoded([records[0], *[("sparse", (0, 0))] * 1024, *records[1:]])
+        yield encoded(many_calls(draw, "head", 4368 + draw.below(3), 1 + draw.below(6)))
 
 
 def points(draw, bits):
@@ -103,8 +119,9 @@ class Sweep:
         return [forms.one_of(draw, points, x) if isinstance(x, list) else x for x in rest]
 
     def hold_place(self, data, bits):
-        """Checks a key, and asks for a cell of it."""
+        """Checks a key, moves it, and asks for a cell of it."""
         self.hold("check", model.check(data), [data])
+        self.hold("moved", moved_words(data), [data])
         row, column = drawn_place(self.draw, [n + self.draw.below(2) for n in bits])
         sheet = numbered(self.draw.below(15))
         self.hold("cell", model.cell(data, row, column, sheet), [data], (row, column), sheet)
@@ -122,10 +139,11 @@ class Sweep:
         """Compares one drawn key, whole and damaged."""
         draw, whole = self.draw, encoded(records)
         others = [records, nearly(draw, records), rewritten(draw, records), drawn_key(draw)]
+        others.append(in_other_edition(records))
         for data in (whole, *damaged(draw, records), *beyond(draw, records)):
             self.hold_place(data, records[0][1])
             for point in points(draw, [field.size * n for n in records[0][1]]):
-                self.hold_point(data, encoded(others[draw.below(4)]), point, field)
+                self.hold_point(data, encoded(others[draw.below(5)]), point, field)
 
 
 def hold_all():

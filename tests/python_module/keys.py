@@ -32,6 +32,7 @@ def hold_no_keys(hold):
     """What has no buffer is no key, in each call and at each of its places."""
     for thing in ("01", None, 1, [1, 1, 1], object(), iter(samples.OLD)):
         hold.raises(f"check of {thing!r}", TypeError, morgana.check, thing)
+        hold.raises(f"moved of {thing!r}", TypeError, morgana.moved, thing)
         hold.raises(f"cell of {thing!r}", TypeError, morgana.cell, thing, 0, 0)
         for call in (morgana.evaluate, morgana.evaluate_quadratic):
             hold.raises(f"{call} of {thing!r}", TypeError, call, thing, [3], [4])

@@ -8,6 +8,11 @@ TRIPLES = [20, 28, 0, 2147483567, 2147483535, 0]
 SIXES = [20, 25, 28, 35, 0, 0, 20, 2147483467, 28, 2147483395, 0, 0]
 PARTS = [3, 2], [4, 5]
 
+# The same in edition 2, with factors 1, and the same circuit by one call with factor 2.
+_FRONT = "scaled_head 1 1, sparse 0 1, cell 0 1 5 7 0, recursive 1 1"
+SCALED = key(f"{_FRONT}, 2 times scaled_call 0 0 0 1, end")
+DOUBLED = key(f"{_FRONT}, scaled_call 0 0 0 2, end")
+
 # The same circuit in one array, and another; 28 bytes each.
 NEW = key("head 1 1, sparse 1 1, cell 0 1 10 14 0, end")
 WRONG = key("head 1 1, sparse 1 1, cell 0 1 10 15 0, end")

@@ -1,4 +1,6 @@
 """The two models in Python, tests/model and tests/unroll, compared with each other. __main__ says how it went.
 
-drawn  drawn keys, points and sheets, answered by both
+holding  what both answer, compared
+drawn    drawn keys, points and sheets, answered by both
+moves    drawn keys and buffers, moved by both
 """

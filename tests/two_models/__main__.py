@@ -1,31 +1,32 @@
-"""Compares tests/model with tests/unroll on drawn keys, points and sheets, over p and over p²: both unroll a key, each in its
-own way.
+"""Compares tests/model with tests/unroll on drawn keys of both editions, points, sheets and buffers, over p and over p²: both
+unroll a key, and move it into the other edition, each in its own way.
 
 The points have numbers 0, 1, 2, p - 1 and any others; some have every number p - 1. Keys, points and sheets are whole or
-faulty, and each refusal must have occurred. At points with every v zero tests/model must answer over p² what it answers
-over p, as u with v zero. The cases over p² (tests/cases/quadratic) are worked out too, and must agree with what is worded
-there. Prints one line and ends with status 0, or prints the first fault and ends with status 1.
+faulty, buffers fit or are too short, and each refusal must have occurred. What is moved is moved back, and the two keys are
+compared. At points with every v zero tests/model must answer over p² what it answers
+over p, as u with v zero. The cases over p² (tests/cases/quadratic and editions) are worked out too, and must agree with what
+is worded there. Prints one line and ends with status 0, or prints the first fault and ends with status 1.
 """
 
 import sys
 
-from tests.cases.collection import Cases
-from tests.cases.quadratic.sweep import quadratic_cases
-from tests.draw.numbers import Draw
+from tests.cases.programs import cases_over_p_squared
 
-from .drawn import Failed, hold_all
+from .drawn import hold_all
+from .holding import Failed
+from .moves import hold_moves
 
 
 def main():
     """Says how it went."""
-    worded = Cases()
     try:
-        quadratic_cases(worded, Draw())
-        cases = hold_all()
+        worded = cases_over_p_squared()
+        cases, moves = hold_all(), hold_moves()
     except (Failed, ValueError) as failure:
         print(f"the model fails: {failure}")
         return 1
-    print(f"the model answers what is unrolled: {cases} cases over both fields, {len(worded.inputs)} worded ones over p²")
+    counts = f"{cases} cases over both fields, {moves} moves, {len(worded.inputs)} worded cases over p²"
+    print(f"the model answers what is unrolled: {counts}")
     return 0
 
 

@@ -2,7 +2,7 @@
 
 import collections
 
-from tests.draw.changes import damaged, nearly, rewritten
+from tests.draw.changes import damaged, in_other_edition, nearly, rewritten
 from tests.draw.keys import drawn_key, encoded
 from tests.draw.numbers import Draw, drawn_edges, drawn_point, numbered, spoiled
 from tests.model.calls import compare, evaluate
@@ -12,16 +12,14 @@ from tests.unroll.calls import compare_on, evaluate_on
 from tests.unroll.fields import F_P, F_P2
 from tests.unroll.keys import Refused
 
+from .holding import hold, hold_outcomes
+
 FIELDS = ((PRIME, F_P), (QUADRATIC, F_P2))
 KEYS = 250
 OUTCOMES = {
     "evaluate": {"accepted", *range(2, 14), 21, 22, 23, 31} - {6},
     "compare": {"same", "different", *range(2, 14), 21, 22, 23, 31, 35} - {6},
 }
-
-
-class Failed(Exception):
-    """The two differ."""
 
 
 def unrolled_evaluation(data, rows, columns, sheet, over):
@@ -43,12 +41,6 @@ def unrolled_comparison(first, second, rows, columns, sheet, over):
     return outcome(verdict, after), verdict
 
 
-def hold(call, got, wanted, about):
-    """Raises Failed where the two answers differ."""
-    if got != wanted:
-        raise Failed(f"{call} {about}\nmodel: {got}\nunrolled: {wanted}")
-
-
 def points(draw, bits):
     """Points of so many numbers on each side: any numbers, edges, and p - 1 alone."""
     yield drawn_point(draw, bits)
@@ -67,7 +59,8 @@ def hold_key(draw, records, counts, field, over):
     """Evaluates and compares one drawn key, whole and damaged."""
     bits = [field.size * n for n in records[0][1]]
     whole = encoded(records)
-    others = [whole, encoded(nearly(draw, records)), encoded(rewritten(draw, records)), encoded(drawn_key(draw))]
+    changed = nearly(draw, records), rewritten(draw, records), in_other_edition(records), drawn_key(draw)
+    others = [whole, *map(encoded, changed)]
     for data in (whole, *damaged(draw, records)):
         for point in points(draw, bits):
             rows, columns = point if draw.below(2) else (spoiled(draw, side) for side in point)
@@ -76,7 +69,7 @@ def hold_key(draw, records, counts, field, over):
             wanted, kind = unrolled_evaluation(data, rows, columns, sheet, over)
             hold("evaluate", evaluate(data, rows, columns, sheet, field=field), wanted, about)
             counts["evaluate", kind] += 1
-            pair = (data, others[draw.below(4)])[:: 1 - 2 * draw.below(2)]
+            pair = (data, others[draw.below(5)])[:: 1 - 2 * draw.below(2)]
             wanted, kind = unrolled_comparison(*pair, rows, columns, sheet, over)
             hold("compare", compare(*pair, rows, columns, sheet, field=field), wanted, f"{about}, {pair[1].hex()}")
             counts["compare", kind] += 1
@@ -91,9 +84,7 @@ def hold_all():
             records = drawn_key(draw, 4, draw.below(2))
             hold_key(draw, records, counts, field, over)
         for call, outcomes in OUTCOMES.items():
-            missing = [each for each in outcomes if not counts[call, each]]
-            if missing:
-                raise Failed(f"{call}{field.suffix}: these outcomes did not occur: {missing}")
+            hold_outcomes(f"{call}{field.suffix}", [(call, each) for each in outcomes], counts)
         cases += counts.total()
     for _ in range(KEYS):
         records = drawn_key(draw, 4, draw.below(2))

@@ -1,9 +1,10 @@
-"""What evaluate and compare answer, and what keysheet prints, by matrices that are written out in full: a model apart from
-tests/model, of which it uses nothing. __main__ reads keysheet's input and prints what keysheet prints.
+"""What evaluate, compare and the move answer, and what keysheet prints, by matrices that are written out in full: a model
+apart from tests/model, of which it uses nothing. __main__ reads keysheet's input and prints what keysheet prints.
 
 fields    the field of p elements and that of p² elements
 keys      records and keys: reading them, and the rules
 dense     the dense matrices of a key's arrays, and their values at a point
 calls     a key evaluated, two keys compared, and the sheet afterwards
+editions  a key written again in the other edition
 keysheet  what keysheet prints
 """

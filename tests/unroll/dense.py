@@ -33,7 +33,9 @@ def sparse_matrix(array, part):
 
 
 def recursive_matrix(array, earlier):
-    """The sum over the array's calls of the called matrices, moved down by a·2^K rows, right by a'·2^K' columns."""
+    """The sum over the array's calls of the called matrices, multiplied by the call's factor, and moved down by a·2^K rows,
+    right by a'·2^K' columns.
+    """
     matrix = zero_matrix(array)
     for call in array.calls:
         called = earlier[call.id]
@@ -41,7 +43,7 @@ def recursive_matrix(array, earlier):
         right = call.column_position * len(called[0])
         for row, numbers in enumerate(called):
             for column, number in enumerate(numbers):
-                total = matrix[down + row][right + column] + number
+                total = matrix[down + row][right + column] + call.factor * number
                 matrix[down + row][right + column] = total % PRIME
     return matrix
 

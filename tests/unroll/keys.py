@@ -9,7 +9,8 @@ KEY_LIMIT = 65536
 ARRAY_LIMIT = 1024
 BITS_LIMIT = 30
 
-HEAD, SPARSE, RECURSIVE, CELL, CALL, END = 1, 2, 3, 4, 5, 6
+HEAD, SPARSE, RECURSIVE, CELL, CALL, END, SCALED_HEAD, SCALED_CALL = 1, 2, 3, 4, 5, 6, 7, 8
+HEADS = HEAD, SCALED_HEAD
 BODIES = {
     HEAD: struct.Struct("<BB"),
     SPARSE: struct.Struct("<BB"),
@@ -17,6 +18,8 @@ BODIES = {
     CELL: struct.Struct("<IIIII"),
     CALL: struct.Struct("<HII"),
     END: struct.Struct("<"),
+    SCALED_HEAD: struct.Struct("<BB"),
+    SCALED_CALL: struct.Struct("<HIII"),
 }
 
 
@@ -58,11 +61,13 @@ class Cell:
 
 @dataclass
 class Call:
-    """A call: the number of the called array, and the positions a and a'."""
+    """A call: its place in the key, the number of the called array, the positions a and a', and its factor."""
 
+    place: int
     id: int
     row_position: int
     column_position: int
+    factor: int = 1
 
 
 @dataclass
@@ -78,9 +83,10 @@ class Array:
 
 @dataclass
 class Key:
-    """An accepted key: its length in bytes, n, n' and its arrays."""
+    """An accepted key: its length in bytes, the kind of its head, n, n' and its arrays."""
 
     length: int
+    head: int
     row_bits: int
     column_bits: int
     arrays: list = field(default_factory=list)
@@ -90,19 +96,19 @@ def check(key_bytes):
     """The accepted key that the bytes are. Refuses with 1 to 13, at the first record at fault."""
     require(len(key_bytes) <= KEY_LIMIT, 1, KEY_LIMIT)
     kind, fields, offset = take(key_bytes, 0)
-    require(kind == HEAD, 4, 0)
+    require(kind in HEADS, 4, 0)
     require(max(fields) <= BITS_LIMIT, 5, 0)
-    key = Key(len(key_bytes), *fields)
+    key = Key(len(key_bytes), kind, *fields)
     while kind != END:
         place = offset
         kind, fields, offset = take(key_bytes, place)
-        require(kind != HEAD, 4, place)
+        require(kind not in HEADS, 4, place)
         if kind in (SPARSE, RECURSIVE):
             open_array(key, kind, fields, place)
         elif kind == CELL:
             add_cell(key, fields, place)
-        elif kind == CALL:
-            add_call(key, fields, place)
+        elif kind != END:
+            add_call(key, kind, fields, place)
     end_key(key, place)
     require(offset == len(key_bytes), 13, offset)
     return key
@@ -126,11 +132,13 @@ def add_cell(key, fields, place):
     array.cells.append(Cell(row, column, tuple(values)))
 
 
-def add_call(key, fields, place):
-    """Gives the key's newest array a call. Refuses with 4, 9, 10 and 11."""
+def add_call(key, kind, fields, place):
+    """Gives the key's newest array a call, CALL behind HEAD, SCALED_CALL behind SCALED_HEAD. Refuses with 4 and 8 to 11."""
     require(key.arrays and key.arrays[-1].kind == RECURSIVE, 4, place)
+    require((kind == CALL) == (key.head == HEAD), 4, place)
     array = key.arrays[-1]
-    call = Call(*fields)
+    call = Call(place, *fields)
+    require(call.factor < PRIME, 8, place)
     require(call.id < len(key.arrays) - 1, 9, place)
     called = key.arrays[call.id]
     require(called.row_bits <= array.row_bits and called.column_bits <= array.column_bits, 10, place)

@@ -15,15 +15,15 @@ use Rattle.arrays.specs.Placing.{blocks}
 use Rattle.arrays.specs.WellFormed.{WellFormed}
 use Rattle.arrays.proofs.DenseEquation.{dense-valid}
 
-module _ (𝓐 : Arithmetic) (𝓡 : Ring 𝓐) (v : Values → 𝓐 .Carrier) (arrays : List Array) (n n' : ℕ) where
+module _ (𝓐 : Arithmetic) (𝓡 : Ring 𝓐) (embed : ℕ → 𝓐 .Carrier) (v : Values → ℕ) (arrays : List Array) (n n' : ℕ) where
   pub dense-at-bits : WellFormed blocks blocks n n' arrays → (i row column : ℕ) → i < length arrays →
       row < 2 ^ (arrayAt arrays i .row-bits) → column < 2 ^ (arrayAt arrays i .column-bits) →
-      extension 𝓐 (dense 𝓐 v blocks blocks arrays i)
+      extension 𝓐 (dense 𝓐 embed v blocks blocks arrays i)
       (take (arrayAt arrays i .row-bits) (bits 𝓐 n row)) (take (arrayAt arrays i .column-bits) (bits 𝓐 n' column))
-      ≡ dense 𝓐 v blocks blocks arrays i row column
+      ≡ dense 𝓐 embed v blocks blocks arrays i row column
   dense-at-bits well i row column l inside inside' =
-      ap₂ (extension 𝓐 (dense 𝓐 v blocks blocks arrays i))
+      ap₂ (extension 𝓐 (dense 𝓐 embed v blocks blocks arrays i))
       (bits-take 𝓐 (arrayAt arrays i .row-bits) n row (well .arrays-fit i l .rows-at-most))
       (bits-take 𝓐 (arrayAt arrays i .column-bits) n' column (well .arrays-fit i l .columns-at-most))
-      ∙ extension-bits 𝓐 𝓡 (dense 𝓐 v blocks blocks arrays i) (arrayAt arrays i .row-bits) (arrayAt arrays i .column-bits)
-      row column inside inside' (dense-valid 𝓐 𝓡 v blocks blocks arrays i row column)
+      ∙ extension-bits 𝓐 𝓡 (dense 𝓐 embed v blocks blocks arrays i) (arrayAt arrays i .row-bits) (arrayAt arrays i .column-bits)
+      row column inside inside' (dense-valid 𝓐 𝓡 embed v blocks blocks arrays i row column)

@@ -16,16 +16,16 @@ use Rattle.arrays.specs.Side.{coordinates}
 
 -- the values of one part in array i, for these rows and columns
 abbrev table : Part → List Array → ℕ → List ℕ → List ℕ → List (List ℕ)
-table q arrays i rows columns = map (λ x. map (dense fp (valueOf q) blocks blocks arrays i x) columns) rows
+table q arrays i rows columns = map (λ x. map (dense fp (λ x. x) (valueOf q) blocks blocks arrays i x) columns) rows
 
 -- the extension of one part of array i
 abbrev extended : Part → List Array → ℕ → List ℕ → List ℕ → ℕ
-extended q arrays i = extension fp (dense fp (valueOf q) blocks blocks arrays i)
+extended q arrays i = extension fp (dense fp (λ x. x) (valueOf q) blocks blocks arrays i)
 
 -- what the pass gives for one part of each array
 abbrev passes : Part → List Array → List ℕ → List ℕ → List ℕ
 passes q arrays rows columns =
-    valuesBelow fp (valueOf q) (coordinates fp rows) (coordinates fp columns) arrays (length arrays)
+    valuesBelow fp (λ x. x) (valueOf q) (coordinates fp rows) (coordinates fp columns) arrays (length arrays)
 
 -- a cell with A alone
 abbrev cellOf : ℕ → ℕ → ℕ → Cell
@@ -43,7 +43,8 @@ keysheet =
     ∷ record {
       row-bits = 1;
       column-bits = 1;
-      entries = calls (record { id = 0; down = 0; right = 0 } ∷ record { id = 0; down = 0; right = 0 } ∷ []);
+      entries =
+          calls (record { id = 0; down = 0; right = 0; factor = 1 } ∷ record { id = 0; down = 0; right = 0; factor = 1 } ∷ []);
     }
     ∷ []
 
@@ -94,7 +95,7 @@ empty-passed = refl
 lower : List Array
 lower =
     record { row-bits = 1; column-bits = 0; entries = cells (cellOf 0 0 9 ∷ []) }
-    ∷ record { row-bits = 2; column-bits = 0; entries = calls (record { id = 0; down = 1; right = 0 } ∷ []) }
+    ∷ record { row-bits = 2; column-bits = 0; entries = calls (record { id = 0; down = 1; right = 0; factor = 1 } ∷ []) }
     ∷ []
 
 lower-dense : table A lower 1 (0 ∷ 1 ∷ 2 ∷ 3 ∷ []) (0 ∷ []) ≡ (0 ∷ []) ∷ (0 ∷ []) ∷ (9 ∷ []) ∷ (0 ∷ []) ∷ []
@@ -116,7 +117,7 @@ lower-passed = refl
 aside : List Array
 aside =
     record { row-bits = 0; column-bits = 1; entries = cells (cellOf 0 1 9 ∷ []) }
-    ∷ record { row-bits = 0; column-bits = 2; entries = calls (record { id = 0; down = 0; right = 1 } ∷ []) }
+    ∷ record { row-bits = 0; column-bits = 2; entries = calls (record { id = 0; down = 0; right = 1; factor = 1 } ∷ []) }
     ∷ []
 
 aside-dense : table A aside 1 (0 ∷ []) (0 ∷ 1 ∷ 2 ∷ 3 ∷ []) ≡ (0 ∷ 0 ∷ 0 ∷ 9 ∷ []) ∷ []
@@ -127,3 +128,47 @@ aside-dense = refl
 aside-passed : passes A aside [] (3 ∷ 4 ∷ []) ≡ 27 ∷ 108 ∷ []
 unfolding aside valuesBelow entriesTerms weight
 aside-passed = refl
+
+-- ---- an array called with the factor 1, and at the same position with the factor p - 1, which is -1: the calls cancel
+
+cancelled : List Array
+cancelled =
+    record { row-bits = 0; column-bits = 1; entries = cells (cellOf 0 1 5 ∷ []) }
+    ∷ record {
+      row-bits = 1;
+      column-bits = 1;
+      entries =
+          calls
+          (record { id = 0; down = 1; right = 0; factor = 1 }
+          ∷ record { id = 0; down = 1; right = 0; factor = 2147483646 }
+          ∷ []);
+    }
+    ∷ []
+
+cancelled-dense : table A cancelled 1 (0 ∷ 1 ∷ []) (0 ∷ 1 ∷ []) ≡ (0 ∷ 0 ∷ []) ∷ (0 ∷ 0 ∷ []) ∷ []
+unfolding cancelled matricesBelow entriesMatrix summed moved
+cancelled-dense = refl
+
+-- at (3), (4): array 0 is 5·4, array 1 is 5·4·3 - 5·4·3
+cancelled-passed : passes A cancelled (3 ∷ []) (4 ∷ []) ≡ 20 ∷ 0 ∷ []
+unfolding cancelled valuesBelow entriesTerms weight
+cancelled-passed = refl
+
+-- ---- an array called with the factor 3, which is called with the factor p - 2: 5 becomes 3·5, and that -2·3·5
+
+tripled : List Array
+tripled =
+    record { row-bits = 0; column-bits = 1; entries = cells (cellOf 0 1 5 ∷ []) }
+    ∷ record { row-bits = 1; column-bits = 1; entries = calls (record { id = 0; down = 1; right = 0; factor = 3 } ∷ []) }
+    ∷ record { row-bits = 1; column-bits = 1; entries = calls (record { id = 1; down = 0; right = 0; factor = 2147483645 } ∷ []) }
+    ∷ []
+
+tripled-dense : map (λ i. table A tripled i (0 ∷ 1 ∷ []) (0 ∷ 1 ∷ [])) (1 ∷ 2 ∷ [])
+    ≡ ((0 ∷ 0 ∷ []) ∷ (0 ∷ 15 ∷ []) ∷ []) ∷ ((0 ∷ 0 ∷ []) ∷ (0 ∷ 2147483617 ∷ []) ∷ []) ∷ []
+unfolding tripled matricesBelow entriesMatrix summed moved
+tripled-dense = refl
+
+-- at (3), (4): 5·4, 3·5·4·3 and -2·3·5·4·3
+tripled-passed : passes A tripled (3 ∷ []) (4 ∷ []) ≡ 20 ∷ 180 ∷ 2147483287 ∷ []
+unfolding tripled valuesBelow entriesTerms weight
+tripled-passed = refl

@@ -22,6 +22,7 @@ module _ (P P' : Placing) where
       (λ call fits.
       let e = same (call .id) (fits .earlier) in
       record {
+        factor-below = fits .factor-below;
         earlier = fits .earlier;
         rows-fit = subst (λ (a : Array). a .row-bits ≤ k) e (fits .rows-fit);
         columns-fit = subst (λ (a : Array). a .column-bits ≤ k') e (fits .columns-fit);

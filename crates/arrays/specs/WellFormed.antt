@@ -1,4 +1,4 @@
--- When the arrays of a circuit are well formed (01, 'An accepted key'): one field for each condition.
+-- When the arrays of a circuit are well formed (01, 'An accepted key'; 02, E9): one field for each condition.
 use Prim.Native.Nat.{ℕ, _-_, _^_, _≤_, _<_}
 use mathlib.Core.List.{List, [], _∷_}
 use mathlib.Core.Path.{_≡_}
@@ -23,6 +23,7 @@ pub record CellFits (k k' : ℕ) (cell : Cell) : Type 0 where
 -- a call in the array numbered i, of k row bits and k' column bits, whose row positions and column positions mean what P and
 -- P' say
 pub record CallFits (P P' : Placing) (arrays : List Array) (i k k' : ℕ) (call : Call) : Type 0 where
+  pub factor-below : call .factor < p
   pub earlier : call .id < i
   pub rows-fit : arrayAt arrays (call .id) .row-bits ≤ k
   pub columns-fit : arrayAt arrays (call .id) .column-bits ≤ k'

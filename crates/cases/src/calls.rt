@@ -1,4 +1,5 @@
 // The public calls, made with a case's numbers and data.
+use crate::moves;
 use crate::pairs;
 use crate::print;
 use crate::values;
@@ -6,6 +7,7 @@ use field::Answer;
 use records::Call;
 use records::Cell;
 use records::Record;
+use records::ScaledCall;
 use records::Shape;
 use testing::input;
 use testing::input::Header;
@@ -36,6 +38,7 @@ fn on(header: Header, buffer: &mut [u8]) {
         8 => values::at_place(header, buffer),
         9 => pairs::at_point(header, buffer),
         10 => pairs::at_points(header, buffer),
+        13 => moves::moved(header, buffer),
         _ => {}
     }
 }
@@ -83,6 +86,13 @@ fn record(header: Header) -> Record {
             id: (fields[0] % 65536) as u16,
             down: fields[1],
             right: fields[2],
+        }),
+        7 => Record::ScaledHead(shape),
+        8 => Record::ScaledCall(ScaledCall {
+            id: (fields[0] % 65536) as u16,
+            down: fields[1],
+            right: fields[2],
+            factor: fields[3],
         }),
         _ => Record::End,
     }

@@ -5,6 +5,7 @@
 // front of what was got, bytes of data, and, where the call has them, the coordinates and what the sheet holds, or the values
 // that coordinates are taken from, four bytes for each number. All numbers are little-endian.
 mod calls;
+mod moves;
 mod pairs;
 mod print;
 mod tally;

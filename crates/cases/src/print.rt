@@ -1,4 +1,5 @@
 // What was got, as text.
+use editions::Copied;
 use evaluate::Evaluated;
 use field::Answer;
 use key::Checked;
@@ -37,6 +38,17 @@ pub(crate) fn written(got: Written) {
             output::number(next as u64);
         }
         Written::Refused(r) => output::refusal(r),
+    }
+}
+
+// The length of a moved key, or a refusal.
+pub(crate) fn moved(got: Copied) {
+    match got {
+        Copied::Length(length) => {
+            io::write_all(1, b"length ");
+            output::number(length as u64);
+        }
+        Copied::Refused(r) => output::refusal(r),
     }
 }
 
@@ -103,6 +115,17 @@ fn record(item: Record) {
         }
         Record::End => {
             io::write_all(1, b"end ");
+        }
+        Record::ScaledHead(s) => {
+            io::write_all(1, b"scaled_head ");
+            shape(s);
+        }
+        Record::ScaledCall(c) => {
+            io::write_all(1, b"scaled_call ");
+            field(c.id as u32);
+            field(c.down);
+            field(c.right);
+            field(c.factor);
         }
     }
 }

@@ -27,7 +27,7 @@ use Rattle.comparison.proofs.Answers.{same-only}
 use Rattle.comparison.proofs.SameWhereExtensionsAgree.{pointOf, embedded, answer-at, same-agrees, agreeing-same, same-or-different}
 
 dense-below : (key : List ℕ) (part : Part) (x y : ℕ) → fp-ring .Valid (lastDense key part x y)
-dense-below key part = dense-valid fp fp-ring (valueOf part) blocks blocks (keyArrays key) (lastOf (keyArrays key))
+dense-below key part = dense-valid fp fp-ring (λ x. x) (valueOf part) blocks blocks (keyArrays key) (lastOf (keyArrays key))
 
 module _ (𝓢 : Scalars) (𝓛 : Lawful 𝓢) (n n' : ℕ) (first second : List ℕ) (is : AcceptedKey n n' first) (is' : AcceptedKey n n' second) where
   embedded-valid : (key : List ℕ) (part : Part) (x y : ℕ) → 𝓛 .field .ring .Valid (embedded 𝓢 𝓛 n n' key part x y)

@@ -1,5 +1,6 @@
 -- Keys of at most one row bit and one column bit, compared: where they are the same, the sheets, and a call for each refusal.
 use Prim.Native.Nat.{ℕ, _-_}
+use mathlib.Core.Bool.{Bool, true, false}
 use mathlib.Core.List.{List, [], _∷_, map}
 use mathlib.Core.Path.{_≡_, refl}
 use lib.ListN.{replicate}
@@ -7,7 +8,7 @@ use Rattle.refusal.specs.declared.Which.{Which}
 use Rattle.field.specs.Fp.{p}
 use Rattle.field.specs.Scalars.{prime}
 use Rattle.records.proofs.Examples.{key}
-use Rattle.arrays.specs.Arrays.{Cell, cells}
+use Rattle.arrays.specs.Arrays.{Cell, cells, calls}
 use Rattle.key.specs.Encoding.{keyBytes}
 use Rattle.comparison.specs.Compare.{Answer, same, different, Comparison, compared}
 use Rattle.comparison.proofs.CompareCases.{refusedCall}
@@ -15,7 +16,7 @@ use Rattle.comparison.proofs.Computing.{comparing}
 
 -- the key of one sparse array of n row bits and n' column bits
 abbrev sparse : ℕ → ℕ → List Cell → List ℕ
-sparse n n' list = keyBytes n n' (record { row-bits = n; column-bits = n'; entries = cells list } ∷ [])
+sparse n n' list = keyBytes false n n' (record { row-bits = n; column-bits = n'; entries = cells list } ∷ [])
 
 abbrev cell : ℕ → ℕ → ℕ → ℕ → ℕ → Cell
 cell row column a b c = record { row = row; column = column; values = record { a = a; b = b; c = c } }
@@ -49,6 +50,33 @@ no-coordinates :
     ≡ same ∷ different ∷ different ∷ different ∷ different ∷ []
 unfolding comparing
 no-coordinates = refl
+
+-- One array that calls another twice, with these factors. In edition 2 a factor of 1 each is the key of edition 1, and so is 3 and
+-- p-1, which add up to 2; a factor of 1 and p-1 leave nothing.
+abbrev twice : Bool → ℕ → ℕ → List ℕ
+twice scaled one other =
+    keyBytes scaled 0 0
+    (record { row-bits = 0; column-bits = 0; entries = cells (cell 0 0 5 7 0 ∷ []) } ∷
+    record {
+      row-bits = 0;
+      column-bits = 0;
+      entries = calls
+          (record { id = 0; down = 0; right = 0; factor = one } ∷ record { id = 0; down = 0; right = 0; factor = other } ∷ []);
+    } ∷ [])
+
+abbrev twiceAs : ℕ → ℕ → Comparison
+twiceAs one other = compared prime (twice false 1 1) (twice true one other) [] [] (replicate 6 9)
+
+editions :
+    answers (twiceAs 1 1 ∷ twiceAs 3 (p - 1) ∷ twiceAs 1 (p - 1) ∷ twiceAs 0 1 ∷ [])
+    ≡ same ∷ same ∷ different ∷ different ∷ []
+unfolding comparing
+editions = refl
+
+cancelled :
+    answers (compared prime (sparse 0 0 []) (twice true 1 (p - 1)) [] [] (replicate 6 9) ∷ []) ≡ same ∷ []
+unfolding comparing
+cancelled = refl
 
 -- the key of 01's keysheet input, and one of a single array: the second key's numbers, beyond them the first key's, and then what
 -- was there

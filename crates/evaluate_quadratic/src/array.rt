@@ -6,13 +6,14 @@ use records::Shape;
 use records::read;
 use weights_quadratic::side;
 ghost use mathlib.Core.Path.{_≡_};
+ghost use mathlib.Core.Bool.{true, false};
 ghost use mathlib.Core.List.{List};
 ghost use Prim.Native.Nat.{ℕ, _<_};
 ghost use lib.ListN.{length};
 ghost use Rattle.quadratic.specs.Quadratic.{quadratic};
 ghost use Rattle.arrays.specs.Arrays.{arrayAt};
 ghost use Rattle.weights_quadratic.specs.Packed.{packed};
-ghost use Rattle.key.specs.KeyArrays.{keyArrays};
+ghost use Rattle.key.specs.KeyArrays.{keyArrays, keyScaled};
 ghost use Rattle.key.specs.Indexed.{Indexed, Sparse, Recursive};
 ghost use Rattle.evaluation.specs.Inner.{Sides, ReachedIn, Filled, nextBy};
 ghost use Rattle.evaluate_quadratic.specs.Answer.{valuesIn};
@@ -76,6 +77,8 @@ fn total(
     let opening = starts[i] as usize;
     if key[opening] == 2 {
         cells(key, starts, arrays, i, reached, rowwise, columnwise)
+    } else if indexed::scaled(key) {
+        scaled_calls(key, starts, arrays, i, reached, rowwise, columnwise, sheet)
     } else {
         calls(key, starts, arrays, i, reached, rowwise, columnwise, sheet)
     }
@@ -110,7 +113,7 @@ fn cells(
     sums
 }
 
-// The same of a recursive array: its calls, added up one by one. Inner: as for `total`.
+// The same of a recursive array in a key of edition 1: its calls, added up one by one. Inner: as for `total`.
 fn calls(
     key: &[u8],
     starts: &[u16],
@@ -124,6 +127,7 @@ fn calls(
     requires { ⌜ Indexed (now key) (now starts) ⌝ }
     requires { ⌜ arrays ≡ length (keyArrays (now key)) ⌝ }
     requires { ⌜ i < arrays ⌝ }
+    requires { ⌜ keyScaled (now key) ≡ false ⌝ }
     requires { ⌜ Recursive (arrayAt (keyArrays (now key)) i .entries) ⌝ }
     requires { ⌜ ReachedIn packed (keyArrays (now key)) i reached (now rowwise) (now columnwise) ⌝ }
     requires { ⌜ Filled quadratic i (now sheet) ⌝ }
@@ -138,6 +142,39 @@ fn calls(
         let c = read::call(key, at + 1);
         sums = entry::call(sums, c, key, starts, reached, rowwise, columnwise, sheet);
         at = at + 11;
+    }
+    sums
+}
+
+// The same in a key of edition 2. Inner: as for `total`.
+fn scaled_calls(
+    key: &[u8],
+    starts: &[u16],
+    arrays: usize,
+    i: usize,
+    reached: Shape,
+    rowwise: &[u64],
+    columnwise: &[u64],
+    sheet: &[u32],
+) -> Sums
+    requires { ⌜ Indexed (now key) (now starts) ⌝ }
+    requires { ⌜ arrays ≡ length (keyArrays (now key)) ⌝ }
+    requires { ⌜ i < arrays ⌝ }
+    requires { ⌜ keyScaled (now key) ≡ true ⌝ }
+    requires { ⌜ Recursive (arrayAt (keyArrays (now key)) i .entries) ⌝ }
+    requires { ⌜ ReachedIn packed (keyArrays (now key)) i reached (now rowwise) (now columnwise) ⌝ }
+    requires { ⌜ Filled quadratic i (now sheet) ⌝ }
+    ensures { λ r. ⌜
+        reducedIn r ≡
+        nextBy packed (now (key .entry)) (now (rowwise .entry)) (now (columnwise .entry)) (now (sheet .entry)) i ⌝ }
+{
+    let to = indexed::behind(key, starts, arrays, i);
+    let mut sums = entry::nothing();
+    let mut at = starts[i] as usize + 3;
+    while at < to {
+        let c = read::scaled_call(key, at + 1);
+        sums = entry::scaled_call(sums, c, key, starts, reached, rowwise, columnwise, sheet);
+        at = at + 15;
     }
     sums
 }

@@ -2,6 +2,8 @@
 pub mod WordsOnSheet
 -- The numbers that an array takes on a sheet, and the elements that they make.
 pub mod WordsOfArray
+-- A call of the factor 1, as every call of edition 1 is, adds the called array's values weighed by its two factors alone.
+pub mod UnscaledCalls
 -- An array's entries added up one by one: what is left of them, and what their sum becomes.
 pub mod SumOfEntries
 -- The cell or the call that is read at an offset is the array's next entry, and is added to the sum.

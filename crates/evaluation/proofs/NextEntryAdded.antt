@@ -1,5 +1,6 @@
 -- The cell or the call that is read at an offset is the array's next entry, and is added to the sum.
 use Prim.Native.Nat.{ℕ, _+_, _-_, _^_, _≤_, _<_}
+use mathlib.Core.Bool.{Bool, true, false}
 use mathlib.Core.List.{List, [], _∷_}
 use mathlib.Core.Path.{_≡_, sym, ap, ap₂, subst, _∙_}
 use native.Mathlib.Nat.{mul-le-mul-left}
@@ -7,29 +8,56 @@ use native.Mathlib.Omega.{arith}
 use lib.ListN.{length, getD, drop}
 use Rattle.algebra.specs.Arithmetic.{Arithmetic}
 use Rattle.field.specs.Scalars.{Scalars, prime}
-use Rattle.records.specs.Kinds.{cellFields, callFields}
+use Rattle.records.specs.Inner.{callSize}
+use Rattle.records.specs.Kinds.{cellFields, callFields, scaledCallFields}
 use Rattle.records.specs.Layout.{fieldsIn}
+use Rattle.records.specs.Take.{takenOutcome, takenAt}
 use Rattle.records.specs.declared.Call.{Call as CallRecord}
 use Rattle.records.specs.declared.Cell.{Cell as CellRecord}
+use Rattle.records.specs.declared.ScaledCall.{ScaledCall}
 use Rattle.records.specs.declared.Shape.{Shape}
+use Rattle.records.specs.declared.Taken.{Taken}
 use Rattle.records.proofs.PresentIsTaken.{taken-present}
 use Rattle.arrays.specs.Arrays.{Cell, Call, Array, arrayAt}
 use Rattle.arrays.specs.Placing.{blocks}
 use Rattle.arrays.specs.Side.{Side}
 use Rattle.arrays.specs.WellFormed.{CellFits, CallFits}
-use Rattle.key.specs.Encoding.{cellRecord, callRecord}
-use Rattle.key.specs.KeyArrays.{cellIn, callIn, keyArrays}
+use Rattle.key.specs.Encoding.{cellRecord, callRecord, FactorIn}
+use Rattle.key.specs.KeyArrays.{cellIn, callIn, scaledCallIn, keyArrays, keyScaled}
+use Rattle.key.proofs.Encodings.{call-length}
 use Rattle.evaluation.specs.Embedded.{sameValuesIn}
 use Rattle.evaluation.specs.Evaluate.{ValuesOf}
 use Rattle.evaluation.specs.Inner.{Filled, Called, ValuesBelow, sheetValues, addedTo, cellAdded, callAdded}
 use Rattle.evaluation.specs.Sheet.{placesOf}
-use Rattle.evaluation.proofs.SumOfEntries.{CellsLeft, CallsLeft, CellNext, CallNext, cell-next, call-next}
+use Rattle.evaluation.proofs.SumOfEntries.{CellsLeft, CallsLeft, CellNext, CallNext, callWeight, cell-next, call-next}
 
 -- on a side, weights over the first k bits may as well be taken over the first `to`
 pub record Further (𝓐 : Arithmetic) (S : Side 𝓐) (k to : ℕ) : Type 0 where
   pub further : k ≤ to
   pub weighs : (a : ℕ) → a < 2 ^ k → S .weigh to a ≡ S .weigh k a
   pub factors : (K a : ℕ) → K ≤ k → a < 2 ^ (k - K) → S .factor to K a ≡ S .factor k K a
+
+-- the call that is read where a call of an edition stands is that call
+plain-call : (key : List ℕ) (at : ℕ) (call : Call) (next : ℕ) →
+    takenAt key at ≡ takenOutcome (Taken.Record (callRecord false call) next) → call .factor ≡ 1 →
+    (c : CallRecord) → callFields c ≡ fieldsIn (2 ∷ 4 ∷ 4 ∷ []) (drop (at + 1) key) → call ≡ callIn c
+plain-call key at call next taken one c read =
+    let fields = taken-present key at (callRecord false call) next taken .0 .fields ∙ sym read in
+    let id = ap (λ (list : List ℕ). getD list 0 0) fields in
+    let down = ap (λ (list : List ℕ). getD list 1 0) fields in
+    let right = ap (λ (list : List ℕ). getD list 2 0) fields in
+    λ t. record { id = id t; down = down t; right = right t; factor = one t }
+
+scaled-call : (key : List ℕ) (at : ℕ) (call : Call) (next : ℕ) →
+    takenAt key at ≡ takenOutcome (Taken.Record (callRecord true call) next) →
+    (c : ScaledCall) → scaledCallFields c ≡ fieldsIn (2 ∷ 4 ∷ 4 ∷ 4 ∷ []) (drop (at + 1) key) → call ≡ scaledCallIn c
+scaled-call key at call next taken c read =
+    let fields = taken-present key at (callRecord true call) next taken .0 .fields ∙ sym read in
+    let id = ap (λ (list : List ℕ). getD list 0 0) fields in
+    let down = ap (λ (list : List ℕ). getD list 1 0) fields in
+    let right = ap (λ (list : List ℕ). getD list 2 0) fields in
+    let factor = ap (λ (list : List ℕ). getD list 3 0) fields in
+    λ t. record { id = id t; down = down t; right = right t; factor = factor t }
 
 module _ (𝓢 : Scalars) (key : List ℕ) (S S' : Side (𝓢 .arithmetic)) (sheet : List ℕ) (i to : ℕ) (reached : Shape)
     (far : Further (𝓢 .arithmetic) S (arrayAt (keyArrays key) i .row-bits) (reached .rows))
@@ -84,45 +112,80 @@ module _ (𝓢 : Scalars) (key : List ℕ) (S S' : Side (𝓢 .arithmetic)) (she
     call : CallNext 𝓢 key S S' sheet i to sum at
     call = call-next 𝓢 key S S' sheet i to sum at l here
 
-    pub call-room : at + 11 ≤ length key
-    call-room = taken-present key at (callRecord (call .c)) (at + 11) (call .taken) .0 .room
+    -- in an edition
+    module _ (scaled : Bool) (edition : keyScaled key ≡ scaled) where
+      pub call-room : at + callSize scaled ≤ length key
+      call-room =
+          omega (
+            arith,
+            taken-present key at (callRecord (keyScaled key) (call .c)) _ (call .taken) .0 .room,
+            call-length (keyScaled key) (call .c),
+            ap callSize edition,
+          )
 
-    module _ (c : CallRecord) (read : callFields c ≡ fieldsIn (2 ∷ 4 ∷ 4 ∷ []) (drop (at + 1) key)) where
-      -- the call that is read is the next one
-      same-call : call .c ≡ callIn c
-      same-call =
-          let fields = taken-present key at (callRecord (call .c)) (at + 11) (call .taken) .0 .fields ∙ sym read in
-          let id = ap (λ (list : List ℕ). getD list 0 0) fields in
-          let down = ap (λ (list : List ℕ). getD list 1 0) fields in
-          let right = ap (λ (list : List ℕ). getD list 2 0) fields in
-          λ t. record { id = id t; down = down t; right = right t }
+      stands : takenAt key at ≡ takenOutcome (Taken.Record (callRecord scaled (call .c)) (at + callSize scaled))
+      stands = subst (λ (s : Bool). takenAt key at ≡ takenOutcome (Taken.Record (callRecord s (call .c)) (at + callSize s))) edition (call .taken)
 
-      call-fits : CallFits blocks blocks (keyArrays key) i (own .row-bits) (own .column-bits) (callIn c)
-      call-fits = subst (CallFits blocks blocks (keyArrays key) i (own .row-bits) (own .column-bits)) same-call (call .fits)
+      writes : FactorIn scaled (call .c .factor)
+      writes = subst (λ (s : Bool). FactorIn s (call .c .factor)) edition (call .written)
 
-      pub call-called : i < length (keyArrays key) → Filled 𝓢 i sheet → Called 𝓢 (keyArrays key) sheet reached c
-      call-called inside filled =
+    -- the next call
+    module _ (c : Call) (is : call .c ≡ c) where
+      next-fits : CallFits blocks blocks (keyArrays key) i (own .row-bits) (own .column-bits) c
+      next-fits = subst (CallFits blocks blocks (keyArrays key) i (own .row-bits) (own .column-bits)) is (call .fits)
+
+      next-called : i < length (keyArrays key) → Filled 𝓢 i sheet → Called 𝓢 (keyArrays key) sheet reached c
+      next-called inside filled =
           record {
-            there = omega (arith, call-fits .earlier);
-            rows-fit = omega (arith, call-fits .rows-fit, far .further);
-            columns-fit = omega (arith, call-fits .columns-fit, far' .further);
-            on-sheet = omega (arith, mul-le-mul-left (placesOf 𝓢) (call-fits .earlier), filled .room);
-            below = filled .below (c .id) (call-fits .earlier);
+            factor-below = next-fits .factor-below;
+            there = omega (arith, next-fits .earlier);
+            rows-fit = omega (arith, next-fits .rows-fit, far .further);
+            columns-fit = omega (arith, next-fits .columns-fit, far' .further);
+            on-sheet = omega (arith, mul-le-mul-left (placesOf 𝓢) (next-fits .earlier), filled .room);
+            below = filled .below (c .id) (next-fits .earlier);
           }
 
-      pub call-added : (more : ValuesOf 𝓢) →
+      here-added : (more : ValuesOf 𝓢) →
           more ≡ callAdded 𝓢 (keyArrays key) S S' sheet (reached .rows) (reached .columns) sum c →
-          CallsLeft 𝓢 key S S' sheet i to more (at + 11)
-      call-added more m =
-          subst (λ (v : ValuesOf 𝓢). CallsLeft 𝓢 key S S' sheet i to v (at + 11))
-          (ap (λ (x : Call).
-          addedTo 𝓢 sum (sheetValues 𝓢 sheet (x .id))
-          (mul (S .factor (own .row-bits) (arrayAt (keyArrays key) (x .id) .row-bits) (x .down))
-          (S' .factor (own .column-bits) (arrayAt (keyArrays key) (x .id) .column-bits) (x .right))))
-          same-call
-          ∙ ap (addedTo 𝓢 sum (sheetValues 𝓢 sheet (c .id)))
+          CallsLeft 𝓢 key S S' sheet i to more (at + callSize (keyScaled key))
+      here-added more m =
+          subst (λ (v : ValuesOf 𝓢). CallsLeft 𝓢 key S S' sheet i to v (at + callSize (keyScaled key)))
+          (ap (λ (x : Call). addedTo 𝓢 sum (sheetValues 𝓢 sheet (x .id)) (callWeight 𝓢 key S S' sheet i to x)) is
+          ∙ ap (λ (w : 𝓢 .arithmetic .Carrier). addedTo 𝓢 sum (sheetValues 𝓢 sheet (c .id)) (mul (𝓢 .embed (c .factor)) w))
           (sym (ap₂ mul
-          (far .factors (arrayAt (keyArrays key) (c .id) .row-bits) (c .down) (call-fits .rows-fit) (call-fits .down-inside))
-          (far' .factors (arrayAt (keyArrays key) (c .id) .column-bits) (c .right) (call-fits .columns-fit) (call-fits .right-inside))))
+          (far .factors (arrayAt (keyArrays key) (c .id) .row-bits) (c .down) (next-fits .rows-fit) (next-fits .down-inside))
+          (far' .factors (arrayAt (keyArrays key) (c .id) .column-bits) (c .right)
+          (next-fits .columns-fit) (next-fits .right-inside))))
           ∙ sym m)
           (call .onward)
+
+      next-added : (scaled : Bool) → keyScaled key ≡ scaled → (more : ValuesOf 𝓢) →
+          more ≡ callAdded 𝓢 (keyArrays key) S S' sheet (reached .rows) (reached .columns) sum c →
+          CallsLeft 𝓢 key S S' sheet i to more (at + callSize scaled)
+      next-added scaled edition more m =
+          subst (λ (s : Bool). CallsLeft 𝓢 key S S' sheet i to more (at + callSize s)) edition (here-added more m)
+
+    module _ (edition : keyScaled key ≡ false) (c : CallRecord) (read : callFields c ≡ fieldsIn (2 ∷ 4 ∷ 4 ∷ []) (drop (at + 1) key)) where
+      plain : call .c ≡ callIn c
+      plain = plain-call key at (call .c) _ (stands false edition) (writes false edition) c read
+
+      pub call-called : i < length (keyArrays key) → Filled 𝓢 i sheet → Called 𝓢 (keyArrays key) sheet reached (callIn c)
+      call-called = next-called (callIn c) plain
+
+      pub call-added : (more : ValuesOf 𝓢) →
+          more ≡ callAdded 𝓢 (keyArrays key) S S' sheet (reached .rows) (reached .columns) sum (callIn c) →
+          CallsLeft 𝓢 key S S' sheet i to more (at + 11)
+      call-added = next-added (callIn c) plain false edition
+
+    module _ (edition : keyScaled key ≡ true) (c : ScaledCall)
+        (read : scaledCallFields c ≡ fieldsIn (2 ∷ 4 ∷ 4 ∷ 4 ∷ []) (drop (at + 1) key)) where
+      scaled : call .c ≡ scaledCallIn c
+      scaled = scaled-call key at (call .c) _ (stands true edition) c read
+
+      pub scaled-call-called : i < length (keyArrays key) → Filled 𝓢 i sheet → Called 𝓢 (keyArrays key) sheet reached (scaledCallIn c)
+      scaled-call-called = next-called (scaledCallIn c) scaled
+
+      pub scaled-call-added : (more : ValuesOf 𝓢) →
+          more ≡ callAdded 𝓢 (keyArrays key) S S' sheet (reached .rows) (reached .columns) sum (scaledCallIn c) →
+          CallsLeft 𝓢 key S S' sheet i to more (at + 15)
+      scaled-call-added = next-added (scaledCallIn c) scaled true edition

@@ -26,7 +26,7 @@ use Rattle.arrays.proofs.Parts.{values-same}
 use Rattle.arrays.proofs.SidesSplit.{coordinates-split}
 use Rattle.evaluation.specs.Cell.{denseValues}
 use Rattle.evaluation.specs.Evaluate.{lastOf, denseOf, valuesAt}
-use Rattle.evaluation.specs.Inner.{partOf, passedValues}
+use Rattle.evaluation.specs.Inner.{passedValues}
 
 -- A side weighs as coordinates do, over so many bits and fewer, and its weights split where calls are placed.
 pub record AsCoordinates (𝓐 : Arithmetic) (n : ℕ) (r : List (𝓐 .Carrier)) (S : Side 𝓐) : Type 0 where
@@ -42,9 +42,9 @@ module _ (𝓢 : Scalars) (𝓛 : Lawful 𝓢) (arrays : List Array) (n n' : ℕ
   -- the dense matrix in the larger field is that of the values there
   embedded : (part : Part) →
       _≡_ {A = Matrix (𝓢 .arithmetic)} (λ x y. 𝓢 .embed (denseOf arrays i part x y))
-      (dense (𝓢 .arithmetic) (partOf 𝓢 part) blocks blocks arrays i)
+      (dense (𝓢 .arithmetic) (𝓢 .embed) (valueOf part) blocks blocks arrays i)
   embedded part t x y =
-      dense-map fp (𝓢 .arithmetic) (𝓢 .embed) (𝓛 .respects) (valueOf part) blocks blocks arrays n n' well i l x y t
+      dense-map fp (𝓢 .arithmetic) (𝓢 .embed) (𝓛 .respects) (λ x. x) (valueOf part) blocks blocks arrays n n' well i l x y t
 
   pub passed-extended : (rows columns : List ℕ) (S S' : Side (𝓢 .arithmetic)) → n ≤ length (𝓢 .elements rows) →
       n' ≤ length (𝓢 .elements columns) → AsCoordinates (𝓢 .arithmetic) n (𝓢 .elements rows) S →
@@ -52,8 +52,8 @@ module _ (𝓢 : Scalars) (𝓛 : Lawful 𝓢) (arrays : List Array) (n n' : ℕ
       passedValues 𝓢 arrays S S' i ≡ valuesAt 𝓢 arrays rows columns i
   passed-extended rows columns S S' enough enough' alike alike' =
       values-same _ _ (λ part.
-      pass-extends-as (𝓢 .arithmetic) (𝓛 .field .ring) (partOf 𝓢 part) arrays (𝓢 .elements rows) (𝓢 .elements columns) S S'
-      (alike .splits) (alike' .splits) n n' well enough enough' (alike .weighs) (alike' .weighs) i l
+      pass-extends-as (𝓢 .arithmetic) (𝓛 .field .ring) (𝓢 .embed) (valueOf part) arrays
+      (𝓢 .elements rows) (𝓢 .elements columns) S S' (alike .splits) (alike' .splits) n n' well enough enough' (alike .weighs) (alike' .weighs) i l
       ∙ ap (λ (m : Matrix (𝓢 .arithmetic)). extension (𝓢 .arithmetic) m (take (arrayAt arrays i .row-bits) (𝓢 .elements rows))
       (take (arrayAt arrays i .column-bits) (𝓢 .elements columns))) (sym (embedded part)))
 
@@ -64,7 +64,8 @@ module _ (arrays : List Array) (n n' : ℕ) (well : WellFormed blocks blocks n n
   pub bits-enough : (m m' row column : ℕ) → n ≤ m → n' ≤ m' →
       valuesAt prime arrays (bits fp m row) (bits fp m' column) i ≡ valuesAt prime arrays (bits fp n row) (bits fp n' column) i
   bits-enough m m' row column enough enough' =
-      ap₂ (λ (rows columns : List ℕ). valuesBy (λ part. extension fp (dense fp (valueOf part) blocks blocks arrays i) rows columns))
+      ap₂ (λ (rows columns : List ℕ).
+      valuesBy (λ part. extension fp (dense fp (λ x. x) (valueOf part) blocks blocks arrays i) rows columns))
       (same (arrayAt arrays i .row-bits) n m row (well .arrays-fit i l .rows-at-most) enough)
       (same (arrayAt arrays i .column-bits) n' m' column (well .arrays-fit i l .columns-at-most) enough')
     where
@@ -77,6 +78,6 @@ pub last-at-bits : (arrays : List Array) (n n' row column : ℕ) → WellFormed 
     valuesAt prime arrays (bits fp n row) (bits fp n' column) (lastOf arrays) ≡ denseValues arrays (lastOf arrays) row column
 last-at-bits arrays n n' row column well last inside inside' =
     values-same _ _ (λ part.
-    dense-at-bits fp fp-ring (valueOf part) arrays n n' well (lastOf arrays) row column (omega (arith, last .some-array))
+    dense-at-bits fp fp-ring (λ x. x) (valueOf part) arrays n n' well (lastOf arrays) row column (omega (arith, last .some-array))
     (subst (λ (k : ℕ). row < 2 ^ k) (sym (last .rows-equal)) inside)
     (subst (λ (k : ℕ). column < 2 ^ k) (sym (last .columns-equal)) inside'))

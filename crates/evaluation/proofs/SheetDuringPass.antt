@@ -16,7 +16,7 @@ use Rattle.arrays.specs.WellFormed.{WellFormed}
 use Rattle.arrays.proofs.Parts.{value-by, values-same}
 use Rattle.arrays.proofs.PassValues.{value-now, values-prefix, array-value-same, value-valid}
 use Rattle.evaluation.specs.Evaluate.{ValuesOf}
-use Rattle.evaluation.specs.Inner.{ValuesBelow, sheetValues, Filled, partOf, nextValues, passedValues}
+use Rattle.evaluation.specs.Inner.{ValuesBelow, sheetValues, Filled, nextValues, passedValues}
 use Rattle.evaluation.specs.Sheet.{wordsOf, placesOf, wordsBelow, laid}
 use Rattle.evaluation.proofs.WordsOfArray.{listed, words-places, below-made}
 use Rattle.evaluation.proofs.WordsOnSheet.{word-before, laid-is, laid-more, laid-length}
@@ -36,7 +36,7 @@ module _ (𝓢 : Scalars) (𝓛 : Lawful 𝓢) (arrays : List Array) (S S' : Sid
 
   -- a part's values by the pass, of the arrays numbered below n
   abbrev below : Part → ℕ → List Carrier
-  below part n = valuesBelow (𝓢 .arithmetic) (partOf 𝓢 part) S S' arrays n
+  below part n = valuesBelow (𝓢 .arithmetic) (𝓢 .embed) (valueOf part) S S' arrays n
 
   abbrev words : ℕ → List ℕ
   words i = wordsOf 𝓢 (passedValues 𝓢 arrays S S' i)
@@ -47,7 +47,7 @@ module _ (𝓢 : Scalars) (𝓛 : Lawful 𝓢) (arrays : List Array) (S S' : Sid
   pub passed-valid : (i : ℕ) (part : Part) → 𝓛 .field .ring .Valid (valueOf part (passedValues 𝓢 arrays S S' i))
   passed-valid i part =
       subst (𝓛 .field .ring .Valid) (sym (value-by (λ part. valueAt (𝓢 .arithmetic) (below part (length arrays)) i) part))
-      (value-valid (𝓢 .arithmetic) (𝓛 .field .ring) (partOf 𝓢 part) S S' arrays (length arrays) i)
+      (value-valid (𝓢 .arithmetic) (𝓛 .field .ring) (𝓢 .embed) (valueOf part) S S' arrays (length arrays) i)
 
   -- the lent sheet, and how it stands behind i arrays
   pub record Passing (lent : List ℕ) (i : ℕ) (sheet : List ℕ) : Type 0 where
@@ -104,18 +104,18 @@ module _ (𝓢 : Scalars) (𝓛 : Lawful 𝓢) (arrays : List Array) (S S' : Sid
         earlier part j m =
             ap (valueOf part) (on-sheet j m)
             ∙ value-by (λ part. valueAt (𝓢 .arithmetic) (below part (length arrays)) j) part
-            ∙ sym (values-prefix (𝓢 .arithmetic) (partOf 𝓢 part) S S' arrays j i (length arrays) m
+            ∙ sym (values-prefix (𝓢 .arithmetic) (𝓢 .embed) (valueOf part) S S' arrays j i (length arrays) m
             (passing .most))
 
         one : (part : Part) →
-            arrayValue (𝓢 .arithmetic) (partOf 𝓢 part) S S' arrays
+            arrayValue (𝓢 .arithmetic) (𝓢 .embed) (valueOf part) S S' arrays
             (λ j. valueOf part (sheetValues 𝓢 sheet j)) (arrayAt arrays i)
             ≡ valueAt (𝓢 .arithmetic) (below part (length arrays)) i
         one part =
-            array-value-same (𝓢 .arithmetic) (partOf 𝓢 part) S S' arrays blocks blocks i
+            array-value-same (𝓢 .arithmetic) (𝓢 .embed) (valueOf part) S S' arrays blocks blocks i
             (λ j. valueOf part (sheetValues 𝓢 sheet j)) (valueAt (𝓢 .arithmetic) (below part i)) (earlier part) (arrayAt arrays i)
             (well .arrays-fit i l .entries-fit)
-            ∙ sym (value-now (𝓢 .arithmetic) (partOf 𝓢 part) S S' arrays i (length arrays) l)
+            ∙ sym (value-now (𝓢 .arithmetic) (𝓢 .embed) (valueOf part) S S' arrays i (length arrays) l)
 
     pub passing-turn : (n n' : ℕ) → WellFormed blocks blocks n n' arrays → i < length arrays → (values : ValuesOf 𝓢)
         (after : List ℕ) → values ≡ nextValues 𝓢 arrays S S' sheet i →

@@ -14,7 +14,7 @@ use Rattle.arrays.specs.Side.{Side}
 use Rattle.arrays.proofs.Parts.{values-same, values-back}
 use Rattle.key.specs.Encoding.{cellRecord, callRecord, entryRecords}
 use Rattle.key.specs.Index.{Runs}
-use Rattle.key.specs.KeyArrays.{keyArrays}
+use Rattle.key.specs.KeyArrays.{keyArrays, keyScaled}
 use Rattle.evaluation.specs.Evaluate.{ValuesOf}
 use Rattle.evaluation.specs.Inner.{nextValues}
 use Rattle.evaluation.proofs.SumOfEntries.{Adding, Becomes, CellsLeft, CallsLeft}
@@ -45,12 +45,12 @@ module _ (𝓢 : Scalars) (key : List ℕ) (S S' : Side (𝓢 .arithmetic)) (she
       ahead r records runs =
           omega (arith, given-onward key at _ (runs .0) .0, runs-ahead key (at + length (encoded r)) records to (runs .1))
 
-      go : (todo : Entries) → Runs key at (entryRecords todo) to → Becomes 𝓢 key S S' sheet i to sum todo →
+      go : (todo : Entries) → Runs key at (entryRecords (keyScaled key) todo) to → Becomes 𝓢 key S S' sheet i to sum todo →
           sum ≡ nextValues 𝓢 (keyArrays key) S S' sheet i
       go (cells []) runs becomes = same becomes
       go (calls []) runs becomes = same becomes
-      go (cells (c ∷ list)) runs becomes = absurd (ahead (cellRecord c) (entryRecords (cells list)) runs)
-      go (calls (c ∷ list)) runs becomes = absurd (ahead (callRecord c) (entryRecords (calls list)) runs)
+      go (cells (c ∷ list)) runs becomes = absurd (ahead (cellRecord c) (entryRecords (keyScaled key) (cells list)) runs)
+      go (calls (c ∷ list)) runs becomes = absurd (ahead (callRecord (keyScaled key) c) (entryRecords (keyScaled key) (calls list)) runs)
 
   pub cells-done : (sum : ValuesOf 𝓢) (at : ℕ) → to ≤ at → CellsLeft 𝓢 key S S' sheet i to sum at →
       sum ≡ nextValues 𝓢 (keyArrays key) S S' sheet i

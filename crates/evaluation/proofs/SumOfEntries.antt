@@ -1,9 +1,10 @@
 -- An array's entries added up one by one: what is left of them, and what their sum becomes.
 use Prim.Native.Nat.{ℕ, _+_, _<_}
 use mathlib.Core.List.{List, [], _∷_, foldl}
-use mathlib.Core.Path.{_≡_, refl, sym, ap, _∙_}
+use mathlib.Core.Path.{_≡_, refl, sym, ap, subst, _∙_}
 use native.Mathlib.Omega.{arith}
 use Rattle.field.specs.Scalars.{Scalars}
+use Rattle.records.specs.Inner.{callSize}
 use Rattle.records.specs.Take.{takenOutcome, takenAt}
 use Rattle.records.specs.declared.Taken.{Taken}
 use Rattle.arrays.specs.Arrays.{Part, A, B, C, valueOf, Cell, Call, Entries, cells, calls, Array, arrayAt}
@@ -12,13 +13,14 @@ use Rattle.arrays.specs.Placing.{blocks}
 use Rattle.arrays.specs.Side.{Side}
 use Rattle.arrays.specs.WellFormed.{CellFits, CallFits, EntriesFit}
 use Rattle.arrays.proofs.Parts.{value-by}
-use Rattle.key.specs.Encoding.{cellRecord, callRecord, entryRecords}
+use Rattle.key.specs.Encoding.{cellRecord, callRecord, entryRecords, FactorIn, EntriesIn}
 use Rattle.key.specs.Index.{Runs}
 use Rattle.key.specs.Indexed.{Sparse, Recursive}
-use Rattle.key.specs.KeyArrays.{keyArrays}
+use Rattle.key.specs.KeyArrays.{keyArrays, keyScaled}
+use Rattle.key.proofs.Encodings.{call-length}
 use Rattle.evaluation.specs.Embedded.{sameValuesIn}
 use Rattle.evaluation.specs.Evaluate.{ValuesOf}
-use Rattle.evaluation.specs.Inner.{sheetValues, addedTo, partOf, nextValues}
+use Rattle.evaluation.specs.Inner.{sheetValues, addedTo, nextValues}
 
 module _ (𝓢 : Scalars) (key : List ℕ) (S S' : Side (𝓢 .arithmetic)) (sheet : List ℕ) (i to : ℕ) where
   abbrev Element : Type 0
@@ -40,7 +42,7 @@ module _ (𝓢 : Scalars) (key : List ℕ) (S S' : Side (𝓢 .arithmetic)) (she
   -- what entries add to a part
   abbrev terms : Part → Entries → List Element
   terms part entries =
-      entriesTerms (𝓢 .arithmetic) (partOf 𝓢 part) S S' (own .row-bits) (own .column-bits)
+      entriesTerms (𝓢 .arithmetic) (𝓢 .embed) (valueOf part) S S' (own .row-bits) (own .column-bits)
       (keyArrays key) (λ j. valueOf part (sheetValues 𝓢 sheet j)) entries
 
   -- the value of a part that the entries from `todo` on lead to
@@ -55,8 +57,9 @@ module _ (𝓢 : Scalars) (key : List ℕ) (S S' : Side (𝓢 .arithmetic)) (she
 
   -- at an offset, where some entries of array i are left and the sum of those before them is `sum`
   pub record Adding (todo : Entries) (sum : ValuesOf 𝓢) (at : ℕ) : Type 0 where
-    pub runs : Runs key at (entryRecords todo) to
+    pub runs : Runs key at (entryRecords (keyScaled key) todo) to
     pub fit : Fit todo
+    pub written : EntriesIn (keyScaled key) todo
     pub becomes : Becomes sum todo
 
   -- the same where they are cells, and where they are calls
@@ -69,7 +72,8 @@ module _ (𝓢 : Scalars) (key : List ℕ) (S S' : Side (𝓢 .arithmetic)) (she
     pub left : Adding (calls todo) sum at
 
   -- before the first entry
-  module _ (at : ℕ) (runs : Runs key at (entryRecords (own .entries)) to) (fit : Fit (own .entries)) where
+  module _ (at : ℕ) (runs : Runs key at (entryRecords (keyScaled key) (own .entries)) to) (fit : Fit (own .entries))
+      (written : EntriesIn (keyScaled key) (own .entries)) where
     abbrev zeros : ValuesOf 𝓢
     zeros = record { a = 𝓢 .arithmetic .nought; b = 𝓢 .arithmetic .nought; c = 𝓢 .arithmetic .nought }
 
@@ -78,6 +82,7 @@ module _ (𝓢 : Scalars) (key : List ℕ) (S S' : Side (𝓢 .arithmetic)) (she
         record {
           runs = runs;
           fit = fit;
+          written = written;
           becomes = λ part. nought part ∙ sym (value-by (λ part. foldl add (𝓢 .arithmetic .nought) (terms part (own .entries))) part);
         }
       where
@@ -107,8 +112,9 @@ module _ (𝓢 : Scalars) (key : List ℕ) (S S' : Side (𝓢 .arithmetic)) (she
 
   abbrev pub callWeight : Call → Element
   callWeight c =
-      mul (S .factor (own .row-bits) (arrayAt (keyArrays key) (c .id) .row-bits) (c .down))
-      (S' .factor (own .column-bits) (arrayAt (keyArrays key) (c .id) .column-bits) (c .right))
+      mul (𝓢 .embed (c .factor))
+      (mul (S .factor (own .row-bits) (arrayAt (keyArrays key) (c .id) .row-bits) (c .down))
+      (S' .factor (own .column-bits) (arrayAt (keyArrays key) (c .id) .column-bits) (c .right)))
 
   -- the next cell, and the next call
   pub record CellNext (sum : ValuesOf 𝓢) (at : ℕ) : Type 0 where
@@ -119,9 +125,10 @@ module _ (𝓢 : Scalars) (key : List ℕ) (S S' : Side (𝓢 .arithmetic)) (she
 
   pub record CallNext (sum : ValuesOf 𝓢) (at : ℕ) : Type 0 where
     pub c : Call
-    pub taken : takenAt key at ≡ takenOutcome (Taken.Record (callRecord c) (at + 11))
+    pub taken : takenAt key at ≡ takenOutcome (Taken.Record (callRecord (keyScaled key) c) (at + callSize (keyScaled key)))
     pub fits : CallFits blocks blocks (keyArrays key) i (own .row-bits) (own .column-bits) c
-    pub onward : CallsLeft (addedTo 𝓢 sum (sheetValues 𝓢 sheet (c .id)) (callWeight c)) (at + 11)
+    pub written : FactorIn (keyScaled key) (c .factor)
+    pub onward : CallsLeft (addedTo 𝓢 sum (sheetValues 𝓢 sheet (c .id)) (callWeight c)) (at + callSize (keyScaled key))
 
   pub cell-next : (sum : ValuesOf 𝓢) (at : ℕ) → at < to → CellsLeft sum at → CellNext sum at
   unfolding entriesTerms
@@ -139,11 +146,12 @@ module _ (𝓢 : Scalars) (key : List ℕ) (S S' : Side (𝓢 .arithmetic)) (she
               left = record {
                 runs = adding .runs .1;
                 fit = adding .fit .1;
+                written = tt;
                 becomes = λ part.
                     ap (λ (x : Element). foldl add x (terms part (cells list)))
                     (part-added sum (sameValuesIn 𝓢 (c .values)) (cellWeight c) part
                     ∙ ap (λ (x : Element). add (valueOf part sum) (mul x (cellWeight c)))
-                    (value-by (λ part. partOf 𝓢 part (c .values)) part))
+                    (value-by (λ part. 𝓢 .embed (valueOf part (c .values))) part))
                     ∙ adding .becomes part;
               };
             };
@@ -158,13 +166,19 @@ module _ (𝓢 : Scalars) (key : List ℕ) (S S' : Side (𝓢 .arithmetic)) (she
       go (c ∷ list) adding =
           record {
             c = c;
-            taken = adding .runs .0;
+            taken =
+                adding .runs .0
+                ∙ ap (λ (n : ℕ). takenOutcome (Taken.Record (callRecord (keyScaled key) c) (at + n))) (call-length (keyScaled key) c);
             fits = adding .fit .0;
+            written = adding .written .0;
             onward = record {
               todo = list;
               left = record {
-                runs = adding .runs .1;
+                runs =
+                    subst (λ (n : ℕ). Runs key (at + n) (entryRecords (keyScaled key) (calls list)) to) (call-length (keyScaled key) c)
+                    (adding .runs .1);
                 fit = adding .fit .1;
+                written = adding .written .1;
                 becomes = λ part.
                     ap (λ (x : Element). foldl add x (terms part (calls list)))
                     (part-added sum (sheetValues 𝓢 sheet (c .id)) (callWeight c) part)

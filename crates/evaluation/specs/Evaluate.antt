@@ -22,7 +22,7 @@ lastOf arrays = length arrays - 1
 
 -- the dense A, B or C of array i, every sum taken modulo p
 abbrev pub denseOf : List Array → ℕ → Part → Matrix fp
-denseOf arrays i part = dense fp (valueOf part) blocks blocks arrays i
+denseOf arrays i part = dense fp (λ x. x) (valueOf part) blocks blocks arrays i
 
 -- A, B and C of something, each an element of the field 𝓢
 abbrev pub ValuesOf : Scalars → Type 0

@@ -7,10 +7,9 @@ use Rattle.refusal.specs.Outcome.{given}
 use Rattle.algebra.specs.Points.{Below}
 use Rattle.field.specs.Fp.{p}
 use Rattle.field.specs.Scalars.{Scalars, elementAt}
-use Rattle.records.specs.declared.Call.{Call as CallRecord}
 use Rattle.records.specs.declared.Cell.{Cell as CellRecord}
 use Rattle.records.specs.declared.Shape.{Shape}
-use Rattle.arrays.specs.Arrays.{Values, Part, valueOf, valuesBy, Array, arrayAt}
+use Rattle.arrays.specs.Arrays.{valueOf, valuesBy, Call, Array, arrayAt}
 use Rattle.arrays.specs.Pass.{arrayValue, valueAt, valuesBelow}
 use Rattle.arrays.specs.Side.{Side}
 use Rattle.weights.specs.Side.{prepared, ForSide, Reaches}
@@ -63,37 +62,36 @@ cellAdded 𝓢 S S' k k' sum c =
     addedTo 𝓢 sum (sameValuesIn 𝓢 (cellIn c .values))
     (𝓢 .arithmetic .mul (S .weigh k (c .row)) (S' .weigh k' (c .column)))
 
--- a sum with a call from such an array added to it, where the called array's values stand on a sheet
+-- A sum with a call from such an array added to it, where the called array's values stand on a sheet. The factor multiplies the
+-- weight: once for A, B and C.
 abbrev pub callAdded : (𝓢 : Scalars) → List Array → Side (𝓢 .arithmetic) → Side (𝓢 .arithmetic) → List ℕ → ℕ → ℕ → ValuesOf 𝓢 →
-    CallRecord → ValuesOf 𝓢
+    Call → ValuesOf 𝓢
 callAdded 𝓢 arrays S S' sheet k k' sum c =
     addedTo 𝓢 sum (sheetValues 𝓢 sheet (c .id))
+    (𝓢 .arithmetic .mul (𝓢 .embed (c .factor))
     (𝓢 .arithmetic .mul (S .factor k (arrayAt arrays (c .id) .row-bits) (c .down))
-    (S' .factor k' (arrayAt arrays (c .id) .column-bits) (c .right)))
+    (S' .factor k' (arrayAt arrays (c .id) .column-bits) (c .right))))
 
 -- a call of an array of at most so many bits, whose values stand on a sheet
-pub record Called (𝓢 : Scalars) (arrays : List Array) (sheet : List ℕ) (shape : Shape) (c : CallRecord) : Type 0 where
+pub record Called (𝓢 : Scalars) (arrays : List Array) (sheet : List ℕ) (shape : Shape) (c : Call) : Type 0 where
+  pub factor-below : c .factor < p
   pub there : c .id < length arrays
   pub rows-fit : arrayAt arrays (c .id) .row-bits ≤ shape .rows
   pub columns-fit : arrayAt arrays (c .id) .column-bits ≤ shape .columns
   pub on-sheet : placesOf 𝓢 * suc (c .id) ≤ length sheet
   pub below : ValuesBelow 𝓢 (sheetValues 𝓢 sheet (c .id))
 
--- the value of a cell that is taken for a part
-abbrev pub partOf : (𝓢 : Scalars) → Part → Values → 𝓢 .arithmetic .Carrier
-partOf 𝓢 part values = 𝓢 .embed (valueOf part values)
-
 -- the values of array i by the pass, where the values of the arrays before stand on a sheet
 abbrev pub nextValues : (𝓢 : Scalars) → List Array → Side (𝓢 .arithmetic) → Side (𝓢 .arithmetic) → List ℕ → ℕ → ValuesOf 𝓢
 nextValues 𝓢 arrays S S' sheet i =
     valuesBy (λ part.
-    arrayValue (𝓢 .arithmetic) (partOf 𝓢 part) S S' arrays (λ j. valueOf part (sheetValues 𝓢 sheet j)) (arrayAt arrays i))
+    arrayValue (𝓢 .arithmetic) (𝓢 .embed) (valueOf part) S S' arrays (λ j. valueOf part (sheetValues 𝓢 sheet j)) (arrayAt arrays i))
 
 -- the values of array i by the pass
 abbrev pub passedValues : (𝓢 : Scalars) → List Array → Side (𝓢 .arithmetic) → Side (𝓢 .arithmetic) → ℕ → ValuesOf 𝓢
 passedValues 𝓢 arrays S S' i =
     valuesBy (λ part.
-    valueAt (𝓢 .arithmetic) (valuesBelow (𝓢 .arithmetic) (partOf 𝓢 part) S S' arrays (length arrays)) i)
+    valueAt (𝓢 .arithmetic) (valuesBelow (𝓢 .arithmetic) (𝓢 .embed) (valueOf part) S S' arrays (length arrays)) i)
 
 -- ---- the same of a key, by the tables of the two sides of a point
 
@@ -103,7 +101,7 @@ cellBy 𝓦 rowwise columnwise shape sum c =
     cellAdded (𝓦 .scalars) (prepared 𝓦 rowwise) (prepared 𝓦 columnwise) (shape .rows) (shape .columns) sum c
 
 -- a sum with a call added to it, from such an array
-abbrev pub callBy : (𝓦 : Words) → List ℕ → List ℕ → List ℕ → List ℕ → Shape → ValuesOf (𝓦 .scalars) → CallRecord →
+abbrev pub callBy : (𝓦 : Words) → List ℕ → List ℕ → List ℕ → List ℕ → Shape → ValuesOf (𝓦 .scalars) → Call →
     ValuesOf (𝓦 .scalars)
 callBy 𝓦 key rowwise columnwise sheet shape sum c =
     callAdded (𝓦 .scalars) (keyArrays key) (prepared 𝓦 rowwise) (prepared 𝓦 columnwise) sheet (shape .rows) (shape .columns) sum c

@@ -1,4 +1,4 @@
-// An accepted key whose arrays are indexed: the shape of an array and where its entries end, and how much there is to weigh.
+// An accepted key whose arrays are indexed: its edition, the shape of an array and where its entries end, and how much there is to weigh.
 pub mod work;
 
 use records::Shape;
@@ -7,8 +7,16 @@ ghost use mathlib.Core.List.{[], _∷_, _++_};
 ghost use Prim.Native.Nat.{_+_, _-_, _<_};
 ghost use lib.ListN.{length, getD};
 ghost use Rattle.key.specs.Index.{startsOf};
-ghost use Rattle.key.specs.Indexed.{Indexed, shapeAt};
-ghost use Rattle.key.specs.KeyArrays.{keyArrays};
+ghost use Rattle.key.specs.Indexed.{IsAccepted, Indexed, shapeAt};
+ghost use Rattle.key.specs.KeyArrays.{keyArrays, keyScaled};
+
+// Whether the key is of edition 2, by its first byte. Inner: the key is accepted.
+pub fn scaled(key: &[u8]) -> bool
+    requires { ⌜ IsAccepted (now key) ⌝ }
+    ensures { λ r. ⌜ r ≡ keyScaled (now (key .entry)) ⌝ }
+{
+    key[0] == 7
+}
 
 // The shape of array i: the two bytes behind its opening's kind. Inner: the key is accepted and indexed, and has such an array.
 pub fn shape(key: &[u8], starts: &[u16], i: usize) -> Shape

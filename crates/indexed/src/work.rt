@@ -74,17 +74,19 @@ fn of_array(key: &[u8], starts: &[u16], arrays: usize, i: usize) -> Sample
     let opening = starts[i] as usize;
     let end = crate::behind(key, starts, arrays, i);
     let size = less(end, opening);
+    let call = read::call_size(crate::scaled(key));
     Sample {
         bytes: size,
-        saved: size / entry_bytes(key[opening]) * weighed(key, starts, i, less(end, 11)),
+        saved: size / entry_bytes(key[opening], call) * weighed(key, starts, i, less(end, call)),
     }
 }
 
-// The bytes of an entry of an array whose opening has this kind.
-fn entry_bytes(kind: u8) -> usize
+// The bytes of an entry of an array whose opening has this kind, where a call has so many.
+fn entry_bytes(kind: u8, call: usize) -> usize
+    requires { ⌜ 1 ≤ call ⌝ }
     ensures { λ r. ⌜ 1 ≤ r ⌝ }
 {
-    if kind == 2 { 21 } else { 11 }
+    if kind == 2 { 21 } else { call }
 }
 
 // How many bits the first entry of array i and the one at an offset weigh on average, but for four. Inner: as for `of_array`, and the
@@ -105,8 +107,8 @@ fn weighed(key: &[u8], starts: &[u16], i: usize, last: usize) -> usize
     (first_bits + last_bits) / 2
 }
 
-// How many of so many bits the array that the call at an offset calls leaves: none where no such call can be in array i. Inner: likewise, and
-// there are at most 510 bits.
+// How many of so many bits the array that the call at an offset calls leaves: none where no such call can be in array i. Inner: likewise,
+// and there are at most 510 bits.
 fn left_by(key: &[u8], starts: &[u16], i: usize, own: usize, at: usize) -> usize
     requires { ⌜ Indexed (now key) (now starts) ⌝ }
     requires { ⌜ i < length (keyArrays (now key)) ⌝ }

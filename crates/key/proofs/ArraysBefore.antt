@@ -1,6 +1,6 @@
 -- What the records before a record say where they are a head and the records of some arrays.
 use Prim.Native.Nat.{ℕ, zero, suc, _-_, _<_}
-use mathlib.Core.Bool.{false}
+use mathlib.Core.Bool.{Bool, false}
 use mathlib.Core.List.{flatMap, List, [], _∷_, _++_, map, map-append, append-nil}
 use mathlib.Core.Path.{_≡_, refl, sym, ap, _∙_}
 use native.Mathlib.Omega.{arith}
@@ -8,27 +8,29 @@ use lib.Dec.{eqb}
 use lib.ListN.{length, getD, length-append, length-map}
 use Rattle.records.specs.declared.Record.{Record}
 use Rattle.arrays.specs.Arrays.{cells, Array, arrayAt}
-use Rattle.key.specs.Before.{openingIn, opened, openingAt, openNow, headOf}
+use Rattle.key.specs.Before.{openingIn, opened, openingAt, openNow, shapeIn, headOf, isScaledHead, isScaled}
 use Rattle.rules.specs.declared.Opening.{Opening}
 use Rattle.key.proofs.Encodings.{openingOf}
 use Rattle.key.proofs.JoinedLists.{flatMap-append}
 use Rattle.key.proofs.NonzeroTest.{not-nought}
-use Rattle.key.proofs.RecordsBefore.{open-last, head-stays}
+use Rattle.key.proofs.RecordsBefore.{open-last, first-stays}
 
--- some records, the first a head of n row bits and n' column bits, open these arrays
-pub record Past (n n' : ℕ) (arrays : List Array) (before : List Record) : Type 0 where
+-- some records, the first a head of an edition, of n row bits and n' column bits, open these arrays
+pub record Past (scaled : Bool) (n n' : ℕ) (arrays : List Array) (before : List Record) : Type 0 where
   pub some-record : 0 < length before
+  pub edition : isScaled before ≡ scaled
   pub head : headOf before ≡ record { rows = n; columns = n' }
   pub openings : opened before ≡ map openingOf arrays
 
-module _ (n n' : ℕ) (before : List Record) where
+module _ (scaled : Bool) (n n' : ℕ) (before : List Record) where
   -- more records open more arrays
-  pub past-append : (arrays more : List Array) (records : List Record) → Past n n' arrays before →
-      opened records ≡ map openingOf more → Past n n' (arrays ++ more) (before ++ records)
+  pub past-append : (arrays more : List Array) (records : List Record) → Past scaled n n' arrays before →
+      opened records ≡ map openingOf more → Past scaled n n' (arrays ++ more) (before ++ records)
   past-append arrays more records past e =
       record {
         some-record = omega (arith, past .some-record, length-append before records);
-        head = head-stays before records (past .some-record) ∙ past .head;
+        edition = ap isScaledHead (first-stays before records (past .some-record)) ∙ past .edition;
+        head = ap shapeIn (first-stays before records (past .some-record)) ∙ past .head;
         openings =
             flatMap-append openingIn before records
             ∙ ap (λ (l : List Opening). l ++ opened records) (past .openings)
@@ -37,14 +39,14 @@ module _ (n n' : ℕ) (before : List Record) where
       }
 
   -- a cell or a call opens none
-  pub past-entry : (arrays : List Array) (r : Record) → Past n n' arrays before → openingIn r ≡ [] →
-      Past n n' arrays (before ++ (r ∷ []))
+  pub past-entry : (arrays : List Array) (r : Record) → Past scaled n n' arrays before → openingIn r ≡ [] →
+      Past scaled n n' arrays (before ++ (r ∷ []))
   unfolding flatMap
   past-entry arrays r past e =
       rw (append-nil arrays) at
       (past-append arrays [] (r ∷ []) past (append-nil (openingIn r) ∙ e))
 
-  pub not-first : (arrays : List Array) → Past n n' arrays before → eqb (length before) 0 ≡ false
+  pub not-first : (arrays : List Array) → Past scaled n n' arrays before → eqb (length before) 0 ≡ false
   not-first arrays past = not-nought (length before) (past .some-record)
 
 -- ---- the openings of some arrays

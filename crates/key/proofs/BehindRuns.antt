@@ -2,15 +2,14 @@
 use Prim.Native.Nat.{ℕ, min, _+_, _-_, _*_, _/_, _≤_, _<_}
 use mathlib.Core.Bool.{Bool, true, false}
 use mathlib.Core.List.{List, [], _∷_, map}
-use mathlib.Core.Path.{_≡_, refl, sym, ap, subst, _∙_}
+use mathlib.Core.Path.{_≡_, refl, sym, ap, ap₂, subst, _∙_}
 use native.Mathlib.Decide.{ℕ-discrete}
 use native.Mathlib.Omega.{arith}
 use borrow.Author.Tests.{leb-false}
 use lib.ListN.{length, getD, drop, set}
-use Rattle.records.specs.Kinds.{shapeFields, encoded}
+use Rattle.records.specs.Kinds.{kindOf, shapeFields, encoded}
 use Rattle.records.specs.Layout.{fieldsIn}
 use Rattle.records.specs.Take.{takenOutcome, takenAt}
-use Rattle.records.specs.declared.Call.{Call}
 use Rattle.records.specs.declared.Cell.{Cell}
 use Rattle.records.specs.declared.Record.{Record}
 use Rattle.records.specs.declared.Shape.{Shape}
@@ -18,9 +17,11 @@ use Rattle.records.specs.declared.Taken.{Taken}
 use Rattle.records.proofs.PresentIsTaken.{present-taken}
 use Rattle.records.proofs.TakeCases.{given-onward}
 use Rattle.arrays.specs.WellFormed.{Each}
+use Rattle.key.specs.Before.{countOf}
 use Rattle.key.specs.Check.{rulesBehind}
+use Rattle.key.specs.Encoding.{headRecord}
 use Rattle.key.specs.Index.{Runs}
-use Rattle.rules.specs.Inner.{callRulesIn, AllKept}
+use Rattle.rules.specs.Inner.{callRulesIn, scaledCallRulesIn, AllKept}
 use Rattle.key.specs.Inner.{IsEntry, rulesSeen, seenIn, opening, passed, after, Run, Here}
 use Rattle.rules.specs.Rules.{Rule, headRules, cellRules, openingRules}
 use Rattle.rules.specs.declared.Verdict.{Verdict}
@@ -43,8 +44,13 @@ entry-passed {seen = seen} {at = at} (Record.Cell cell) entry H e room kept =
     goes-on H (Record.Cell cell) _ e (kept-held Verdict.Kept at (cellRules (seen .array) cell) kept refl) refl (omega arith) room
 entry-passed {key = key} {starts = starts} {seen = seen} {at = at} (Record.Call call) entry H e room kept =
     goes-on H (Record.Call call) _ e
-    (kept-held Verdict.Kept at (callRulesIn key starts (seen .array) (seen .arrays) call) kept refl) refl (omega arith) room
+    (kept-held Verdict.Kept at (callRulesIn key starts (seen .scaled) (seen .array) (seen .arrays) call) kept refl) refl (omega arith) room
 entry-passed Record.End entry H e room kept = absurd entry
+entry-passed (Record.ScaledHead shape) entry H e room kept = absurd entry
+entry-passed {key = key} {starts = starts} {seen = seen} {at = at} (Record.ScaledCall call) entry H e room kept =
+    goes-on H (Record.ScaledCall call) _ e
+    (kept-held Verdict.Kept at (scaledCallRulesIn key starts (seen .scaled) (seen .array) (seen .arrays) call) kept refl) refl (omega arith)
+    room
 
 -- behind an entry the rules of entries are what they were
 rules-stay : (seen : Seen) (key starts : List ℕ) (item other : Record) → IsEntry item → IsEntry other →
@@ -53,6 +59,11 @@ rules-stay seen key starts (Record.Cell a) (Record.Cell b) entry again = refl
 rules-stay seen key starts (Record.Cell a) (Record.Call b) entry again = refl
 rules-stay seen key starts (Record.Call a) (Record.Cell b) entry again = refl
 rules-stay seen key starts (Record.Call a) (Record.Call b) entry again = refl
+rules-stay seen key starts (Record.Cell a) (Record.ScaledCall b) entry again = refl
+rules-stay seen key starts (Record.Call a) (Record.ScaledCall b) entry again = refl
+rules-stay seen key starts (Record.ScaledCall a) (Record.Cell b) entry again = refl
+rules-stay seen key starts (Record.ScaledCall a) (Record.Call b) entry again = refl
+rules-stay seen key starts (Record.ScaledCall a) (Record.ScaledCall b) entry again = refl
 
 -- ---- a run of entries
 
@@ -96,72 +107,105 @@ module _ {A : Type 0} (item : A → Record) (entry : (x : A) → IsEntry (item x
   run-width width wide (x ∷ list) from to runs =
       omega (arith, run-width width wide list (from + length (encoded (item x))) to (runs .1), wide x)
 
--- the counts behind cells, and behind calls
-cells-counted : (list : List Cell) (seen : Seen) → seen .first ≡ false →
-    afterAll seen (map Record.Cell list) ≡ passed seen (seen .head) (seen .cells + length list) (seen .calls)
-cells-counted [] seen first =
-    let none : seen .cells ≡ seen .cells + 0 = omega arith in
-    λ i. record {
-      first = first i;
-      head = seen .head;
-      array = seen .array;
-      arrays = seen .arrays;
-      cells = none i;
-      calls = seen .calls;
-    }
-cells-counted (x ∷ list) seen first =
-    let more : seen .cells + 1 + length list ≡ seen .cells + length (x ∷ list) = omega arith in
-    cells-counted list (after seen (Record.Cell x)) refl ∙ ap (λ (n : ℕ). passed seen (seen .head) n (seen .calls)) more
+-- so many cells and calls more
+abbrev more : Seen → ℕ → ℕ → Seen
+more seen cells calls = passed seen (seen .scaled) (seen .head) (seen .cells + cells) (seen .calls + calls)
 
-calls-counted : (list : List Call) (seen : Seen) → seen .first ≡ false →
-    afterAll seen (map Record.Call list) ≡ passed seen (seen .head) (seen .cells) (seen .calls + length list)
-calls-counted [] seen first =
-    let none : seen .calls ≡ seen .calls + 0 = omega arith in
+none-more : (seen : Seen) → seen .first ≡ false → seen ≡ more seen 0 0
+none-more seen first =
+    let cells : seen .cells ≡ seen .cells + 0 = omega arith in
+    let calls : seen .calls ≡ seen .calls + 0 = omega arith in
     λ i. record {
       first = first i;
+      scaled = seen .scaled;
       head = seen .head;
       array = seen .array;
       arrays = seen .arrays;
-      cells = seen .cells;
-      calls = none i;
+      cells = cells i;
+      calls = calls i;
     }
-calls-counted (x ∷ list) seen first =
-    let more : seen .calls + 1 + length list ≡ seen .calls + length (x ∷ list) = omega arith in
-    calls-counted list (after seen (Record.Call x)) refl ∙ ap (λ (n : ℕ). passed seen (seen .head) (seen .cells) n) more
+
+more-more : (seen : Seen) (cells calls cells' calls' : ℕ) → more (more seen cells calls) cells' calls' ≡ more seen (cells + cells') (calls + calls')
+more-more seen cells calls cells' calls' =
+    let e : seen .cells + cells + cells' ≡ seen .cells + (cells + cells') = omega arith in
+    let f : seen .calls + calls + calls' ≡ seen .calls + (calls + calls') = omega arith in
+    ap₂ (passed seen (seen .scaled) (seen .head)) e f
+
+-- the counts behind entries of one kind, each of which adds so many
+entries-counted : {A : Type 0} (item : A → Record) (cells calls : ℕ) →
+    ((seen : Seen) (x : A) → after seen (item x) ≡ more seen cells calls) → (list : List A) (seen : Seen) → seen .first ≡ false →
+    afterAll seen (map item list) ≡ more seen (cells * length list) (calls * length list)
+entries-counted item cells calls each [] seen first =
+    let e : 0 ≡ cells * 0 = omega arith in
+    let f : 0 ≡ calls * 0 = omega arith in
+    none-more seen first ∙ ap₂ (more seen) e f
+entries-counted item cells calls each (x ∷ list) seen first =
+    let e : cells + cells * length list ≡ cells * length (x ∷ list) = omega arith in
+    let f : calls + calls * length list ≡ calls * length (x ∷ list) = omega arith in
+    ap (λ (s : Seen). afterAll s (map item list)) (each seen x)
+    ∙ entries-counted item cells calls each list (more seen cells calls) refl
+    ∙ more-more seen cells calls (cells * length list) (calls * length list) ∙ ap₂ (more seen) e f
+
+cell-seen : (seen : Seen) (c : Cell) → after seen (Record.Cell c) ≡ more seen 1 0
+cell-seen seen c =
+    let calls : seen .calls ≡ seen .calls + 0 = omega arith in
+    ap (passed seen (seen .scaled) (seen .head) (seen .cells + 1)) calls
+
+call-seen : (seen : Seen) → passed seen (seen .scaled) (seen .head) (seen .cells) (seen .calls + 1) ≡ more seen 0 1
+call-seen seen =
+    let cells : seen .cells ≡ seen .cells + 0 = omega arith in
+    ap (λ (n : ℕ). passed seen (seen .scaled) (seen .head) n (seen .calls + 1)) cells
 
 -- behind a run the walk stands where it would have come to one by one
 module _ {key starts : List ℕ} {seen : Seen} {from to : ℕ} (H : Here key starts seen from) (first : seen .first ≡ false) where
-  pub cells-walked : Run key Record.Cell (cellRules (seen .array)) from to →
-      Here key starts (passed seen (seen .head) (seen .cells + (to - from) / 21) (seen .calls + 0)) to
-  cells-walked run =
-      let cells : (to - from) / 21 ≡ length (run .entries) =
-      omega (arith, run-width Record.Cell (λ c. tt) key starts 21 (λ c. refl) (run .entries) from to (run .runs)) in
-      let calls : seen .calls + 0 ≡ seen .calls = omega arith in
-      rw (cells, calls)
-      (subst (λ (s : Seen). Here key starts s to) (cells-counted (run .entries) seen first)
-      (run-walked Record.Cell (λ c. tt) key starts (run .entries) seen from to H (run .runs) (run .kept)))
+  walked : {A : Type 0} (item : A → Record) → ((x : A) → IsEntry (item x)) → (width cells calls : ℕ) →
+      ((x : A) → length (encoded (item x)) ≡ width) → ((seen : Seen) (x : A) → after seen (item x) ≡ more seen cells calls) →
+      (run : Run key item (λ x. rulesSeen seen key starts (item x)) from to) → (all-cells all-calls : ℕ) →
+      (to ≡ from + width * length (run .entries) →
+      (all-cells ≡ cells * length (run .entries)) × (all-calls ≡ calls * length (run .entries))) →
+      Here key starts (more seen all-cells all-calls) to
+  walked item entry width cells calls wide each run all-cells all-calls are =
+      let counts = are (run-width item entry key starts width wide (run .entries) from to (run .runs)) in
+      subst (λ (s : Seen). Here key starts s to)
+      (entries-counted item cells calls each (run .entries) seen first ∙ ap₂ (more seen) (sym (counts .0)) (sym (counts .1)))
+      (run-walked item entry key starts (run .entries) seen from to H (run .runs) (run .kept))
 
-  pub calls-walked : Run key Record.Call (callRulesIn key starts (seen .array) (seen .arrays)) from to →
-      Here key starts (passed seen (seen .head) (seen .cells + 0) (seen .calls + (to - from) / 11)) to
-  calls-walked run =
-      let calls : (to - from) / 11 ≡ length (run .entries) =
-      omega (arith, run-width Record.Call (λ c. tt) key starts 11 (λ c. refl) (run .entries) from to (run .runs)) in
-      let cells : seen .cells + 0 ≡ seen .cells = omega arith in
-      rw (cells, calls)
-      (subst (λ (s : Seen). Here key starts s to) (calls-counted (run .entries) seen first)
-      (run-walked Record.Call (λ c. tt) key starts (run .entries) seen from to H (run .runs) (run .kept)))
+  pub cells-walked : Run key Record.Cell (cellRules (seen .array)) from to →
+      Here key starts (passed seen (seen .scaled) (seen .head) (seen .cells + (to - from) / 21) (seen .calls + 0)) to
+  cells-walked run =
+      walked Record.Cell (λ c. tt) 21 1 0 (λ c. refl) cell-seen run ((to - from) / 21) 0 (λ e. omega (arith, e))
+
+  pub calls-walked : seen .scaled ≡ false → Run key Record.Call (callRulesIn key starts false (seen .array) (seen .arrays)) from to →
+      Here key starts (passed seen (seen .scaled) (seen .head) (seen .cells + 0) (seen .calls + (to - from) / 11)) to
+  calls-walked one run =
+      walked Record.Call (λ c. tt) 11 0 1 (λ c. refl) (λ s c. call-seen s)
+      (subst (λ (b : Bool). Run key Record.Call (callRulesIn key starts b (seen .array) (seen .arrays)) from to) (sym one) run)
+      0 ((to - from) / 11) (λ e. omega (arith, e))
+
+  pub scaled-calls-walked : seen .scaled ≡ true →
+      Run key Record.ScaledCall (scaledCallRulesIn key starts true (seen .array) (seen .arrays)) from to →
+      Here key starts (passed seen (seen .scaled) (seen .head) (seen .cells + 0) (seen .calls + (to - from) / 15)) to
+  scaled-calls-walked two run =
+      walked Record.ScaledCall (λ c. tt) 15 0 1 (λ c. refl) (λ s c. call-seen s)
+      (subst (λ (b : Bool). Run key Record.ScaledCall (scaledCallRulesIn key starts b (seen .array) (seen .arrays)) from to) (sym two) run)
+      0 ((to - from) / 15) (λ e. omega (arith, e))
 
 -- ---- a head and an opening
 
 -- a head that keeps its rules is passed, as the first record
-pub head-passed : (key starts : List ℕ) → length key ≤ 65536 → min 1024 (length key / 3) ≤ length starts → (shape : Shape) → getD key 0 0 ≡ 1 →
-    3 ≤ length key → shapeFields shape ≡ fieldsIn (1 ∷ 1 ∷ []) (drop 1 key) →
-    AllKept (headRules true shape) → Here key starts (after (seenIn []) (Record.Head shape)) 3
-unfolding rulesBehind
-head-passed key starts short places shape kind room fields kept =
-    goes-on (begins key starts short places) (Record.Head shape) 3
-    (present-taken key 0 (Record.Head shape) (record { kind = kind; room = room; fields = fields }))
-    (kept-held Verdict.Kept 0 (headRules true shape) kept refl) refl (omega arith) room
+module _ (key starts : List ℕ) (short : length key ≤ 65536) (places : min 1024 (length key / 3) ≤ length starts) (shape : Shape)
+    (room : 3 ≤ length key) (fields : shapeFields shape ≡ fieldsIn (1 ∷ 1 ∷ []) (drop 1 key)) (kept : AllKept (headRules true shape)) where
+  pub head-passed : (scaled : Bool) → getD key 0 0 ≡ kindOf (headRecord scaled (shape .rows) (shape .columns)) →
+      Here key starts (passed (seenIn []) scaled shape 0 0) 3
+  unfolding rulesBehind countOf
+  head-passed false kind =
+      goes-on (begins key starts short places) (Record.Head shape) 3
+      (present-taken key 0 (Record.Head shape) (record { kind = kind; room = room; fields = fields }))
+      (kept-held Verdict.Kept 0 (headRules true shape) kept refl) refl (omega arith) room
+  head-passed true kind =
+      goes-on (begins key starts short places) (Record.ScaledHead shape) 3
+      (present-taken key 0 (Record.ScaledHead shape) (record { kind = kind; room = room; fields = fields }))
+      (kept-held Verdict.Kept 0 (headRules true shape) kept refl) refl (omega arith) room
 
 -- an opening that keeps its rules is passed, and its offset noted
 pub opening-passed : {key starts : List ℕ} {seen : Seen} {at : ℕ} → Here key starts seen at → (kind : ℕ) (shape : Shape) → 2 ≤ kind → kind ≤ 3 →

@@ -43,6 +43,8 @@ opening-wide (Record.Recursive shape) = omega arith
 opening-wide (Record.Cell cell) = omega arith
 opening-wide (Record.Call call) = omega arith
 opening-wide Record.End = omega arith
+opening-wide (Record.ScaledHead shape) = omega arith
+opening-wide (Record.ScaledCall call) = omega arith
 
 module _ {key starts : List ℕ} {seen : Seen} {at : ℕ} (H : Here key starts seen at) where
   -- there is a step left

@@ -5,13 +5,13 @@ use mathlib.Core.Path.{_≡_, refl, ap}
 use native.Mathlib.Omega.{arith}
 use borrow.Author.Tests.{le-ltb}
 use lib.ListN.{length, length-map}
-use Rattle.key.specs.Before.{opened, countOf}
+use Rattle.key.specs.Before.{opened, countOf, callCount}
 use Rattle.key.specs.Check.{checkedKey}
 use Rattle.rules.specs.Inner.{Noted}
 use Rattle.key.specs.Inner.{seenIn, Here}
 use Rattle.key.specs.Reading.{Located, items}
 use Rattle.key.specs.declared.seen.Seen.{Seen}
-use Rattle.key.proofs.RecordsBefore.{opened-most, count-most}
+use Rattle.key.proofs.RecordsBefore.{opened-most, count-most, calls-most}
 
 -- the walk begins at the first byte, with nothing seen
 pub begins : (key starts : List ℕ) → length key ≤ 65536 → min 1024 (length key / 3) ≤ length starts → Here key starts (seenIn []) 0
@@ -42,9 +42,9 @@ module _ {key starts : List ℕ} {seen : Seen} {at : ℕ} (H : Here key starts s
       let few : length (items (H .past)) ≤ at = omega (arith, length-map (H .past) (λ (x : Located). x .item), H .few) in
       let arrays : seen .arrays ≡ length (opened (items (H .past))) = ap (λ (s : Seen). s .arrays) (H .seen-is) in
       let cells : seen .cells ≡ countOf 0x04 (items (H .past)) = ap (λ (s : Seen). s .cells) (H .seen-is) in
-      let calls : seen .calls ≡ countOf 0x05 (items (H .past)) = ap (λ (s : Seen). s .calls) (H .seen-is) in
+      let calls : seen .calls ≡ callCount (items (H .past)) = ap (λ (s : Seen). s .calls) (H .seen-is) in
       omega
-      (arith, few, arrays, cells, calls, opened-most (items (H .past)), count-most 0x04 (items (H .past)), count-most 0x05 (items (H .past)))
+      (arith, few, arrays, cells, calls, opened-most (items (H .past)), count-most 0x04 (items (H .past)), calls-most (items (H .past)))
 
   -- the offsets of the arrays so far are noted
   pub noted : Noted key starts (seen .arrays)

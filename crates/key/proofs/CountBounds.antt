@@ -9,11 +9,12 @@ use Rattle.records.specs.Kinds.{recordOf}
 use Rattle.records.specs.Take.{Found, takenAt}
 use Rattle.records.specs.declared.Record.{Record}
 use Rattle.key.specs.Check.{countsOf, checkedKey}
+use Rattle.key.specs.KeyArrays.{keyArrays, keyScaled}
 use Rattle.key.specs.Reading.{Located, Reading, behind, readAt, readFrom, readingOf, locatedIn, recordsIn}
 use Rattle.key.specs.declared.Counts.{Counts}
 use Rattle.key.proofs.Acceptance.{acceptance}
 use Rattle.key.proofs.KeyCounts.{counts-key}
-use Rattle.key.proofs.RecordsBefore.{count-most}
+use Rattle.key.proofs.RecordsBefore.{count-most, calls-most}
 
 behind-most : (n : ℕ) (item : Record) (rest : Reading) → length (locatedIn rest) ≤ n → length (locatedIn (behind item rest)) ≤ n
 unfolding locatedIn
@@ -23,6 +24,8 @@ behind-most n (Record.Recursive shape) rest most = most
 behind-most n (Record.Cell cell) rest most = most
 behind-most n (Record.Call call) rest most = most
 behind-most n Record.End rest most = omega arith
+behind-most n (Record.ScaledHead shape) rest most = most
+behind-most n (Record.ScaledCall call) rest most = most
 
 -- a step reads one record at most
 read-most : (steps : ℕ) (key : List ℕ) (at : ℕ) → length (locatedIn (readFrom steps key at)) ≤ steps
@@ -52,7 +55,7 @@ module _ (key : List ℕ) (counts : Counts) (accepted : checkedKey key ≡ given
   counts-are : counts ≡ countsOf (recordsIn key)
   counts-are =
       let a = acceptance key counts accepted in
-      a .counted ∙ sym (counts-key _ _ _) ∙ ap countsOf (sym (a .records))
+      a .counted ∙ sym (counts-key (keyScaled key) (counts .rows) (counts .columns) (keyArrays key)) ∙ ap countsOf (sym (a .records))
 
   few : (count : Counts → ℕ) → count (countsOf (recordsIn key)) ≤ length (recordsIn key) → count counts ≤ 65537
   few count most =
@@ -62,4 +65,4 @@ module _ (key : List ℕ) (counts : Counts) (accepted : checkedKey key ≡ given
   cells-few = few (λ c. c .cells) (count-most 0x04 (recordsIn key))
 
   pub calls-few : counts .calls ≤ 65537
-  calls-few = few (λ c. c .calls) (count-most 0x05 (recordsIn key))
+  calls-few = few (λ c. c .calls) (calls-most (recordsIn key))

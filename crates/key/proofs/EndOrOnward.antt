@@ -16,6 +16,8 @@ is-end (Record.Recursive shape) e = absurd (false≢true e)
 is-end (Record.Cell cell) e = absurd (false≢true e)
 is-end (Record.Call call) e = absurd (false≢true e)
 is-end Record.End e = refl
+is-end (Record.ScaledHead shape) e = absurd (false≢true e)
+is-end (Record.ScaledCall call) e = absurd (false≢true e)
 
 -- an end or not
 pub ends-or-not : (r : Record) → (r ≡ Record.End) ⊎ Onward r

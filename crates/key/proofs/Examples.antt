@@ -1,17 +1,19 @@
 -- The key of 01's keysheet input, its arrays and where they begin, and a key for each refusal. Number 6 needs more than 3,000
 -- bytes, and the test program has it.
 use Prim.Native.Nat.{ℕ}
+use mathlib.Core.Bool.{true, false}
 use mathlib.Core.List.{List, [], _∷_, _++_, map}
 use mathlib.Core.Path.{_≡_, refl}
 use lib.ListN.{replicate}
 use Rattle.refusal.specs.Number.{numberOf}
 use Rattle.refusal.specs.Outcome.{given, refused}
 use Rattle.field.specs.Fp.{p}
+use Rattle.records.specs.Kinds.{bytesOfAll}
 use Rattle.records.specs.declared.Record.{Record}
 use Rattle.records.proofs.Examples.{key}
 use Rattle.arrays.specs.Arrays.{cells, calls}
 use Rattle.key.specs.Check.{checkedKey}
-use Rattle.key.specs.Encoding.{headRecord, bytesOfAll}
+use Rattle.key.specs.Encoding.{headRecord}
 use Rattle.key.specs.Index.{startsOf}
 use Rattle.key.specs.KeyArrays.{keyArrays}
 use Rattle.key.proofs.Computing.{checking}
@@ -34,7 +36,7 @@ arrays :
     record {
       row-bits = 1;
       column-bits = 1;
-      entries = calls (record { id = 0; down = 0; right = 0 } ∷ record { id = 0; down = 0; right = 0 } ∷ []);
+      entries = calls (record { id = 0; down = 0; right = 0; factor = 1 } ∷ record { id = 0; down = 0; right = 0; factor = 1 } ∷ []);
     } ∷ []
 unfolding checking
 arrays = refl
@@ -53,36 +55,46 @@ cell row column a = Record.Cell (record { row = row; column = column; a = a; b =
 abbrev call : ℕ → ℕ → ℕ → Record
 call id down right = Record.Call (record { id = id; down = down; right = right })
 
+abbrev scaledCall : ℕ → ℕ → ℕ → ℕ → Record
+scaledCall id down right factor = Record.ScaledCall (record { id = id; down = down; right = right; factor = factor })
+
 -- keys with a fault, in the order of the numbers
 abbrev keys : List (List ℕ)
 keys =
     -- 2: no record
     [] ∷
     -- 2: a cell that is cut off
-    (bytesOfAll (headRecord 1 1 ∷ sparse 1 1 ∷ []) ++ (0x04 ∷ 0x00 ∷ [])) ∷
+    (bytesOfAll (headRecord false 1 1 ∷ sparse 1 1 ∷ []) ++ (0x04 ∷ 0x00 ∷ [])) ∷
     -- 3: an unknown kind
-    (bytesOfAll (headRecord 1 1 ∷ []) ++ (0x07 ∷ [])) ∷
+    (bytesOfAll (headRecord false 1 1 ∷ []) ++ (0x09 ∷ [])) ∷
     -- 4: a cell directly behind the head, and an end before any array
-    bytesOfAll (headRecord 1 1 ∷ cell 0 0 0 ∷ []) ∷
-    bytesOfAll (headRecord 1 1 ∷ Record.End ∷ []) ∷
+    bytesOfAll (headRecord false 1 1 ∷ cell 0 0 0 ∷ []) ∷
+    bytesOfAll (headRecord false 1 1 ∷ Record.End ∷ []) ∷
+    -- 4: a second head of the other edition, and a call of the other edition
+    bytesOfAll (headRecord false 1 1 ∷ headRecord true 1 1 ∷ []) ∷
+    bytesOfAll (headRecord true 1 1 ∷ sparse 1 1 ∷ recursive 1 1 ∷ call 0 0 0 ∷ []) ∷
+    bytesOfAll (headRecord false 1 1 ∷ sparse 1 1 ∷ recursive 1 1 ∷ scaledCall 0 0 0 p ∷ []) ∷
     -- 5: the head's bits, and an array's
-    bytesOfAll (headRecord 31 0 ∷ []) ∷
-    bytesOfAll (headRecord 1 1 ∷ sparse 1 2 ∷ []) ∷
+    bytesOfAll (headRecord false 31 0 ∷ []) ∷
+    bytesOfAll (headRecord false 1 1 ∷ sparse 1 2 ∷ []) ∷
     -- 7 and 8
-    bytesOfAll (headRecord 1 1 ∷ sparse 1 1 ∷ cell 2 0 0 ∷ []) ∷
-    bytesOfAll (headRecord 1 1 ∷ sparse 1 1 ∷ cell 1 1 p ∷ []) ∷
+    bytesOfAll (headRecord false 1 1 ∷ sparse 1 1 ∷ cell 2 0 0 ∷ []) ∷
+    bytesOfAll (headRecord false 1 1 ∷ sparse 1 1 ∷ cell 1 1 p ∷ []) ∷
+    -- 8: a factor, also where the call breaks 9 and 11
+    bytesOfAll (headRecord true 1 1 ∷ sparse 1 1 ∷ recursive 1 1 ∷ scaledCall 0 0 0 p ∷ []) ∷
+    bytesOfAll (headRecord true 1 1 ∷ recursive 1 1 ∷ scaledCall 0 2 0 p ∷ []) ∷
     -- 9, 10 and 11
-    bytesOfAll (headRecord 1 1 ∷ recursive 1 1 ∷ call 0 0 0 ∷ []) ∷
-    bytesOfAll (headRecord 1 1 ∷ sparse 1 1 ∷ recursive 0 1 ∷ call 0 0 0 ∷ []) ∷
-    bytesOfAll (headRecord 1 1 ∷ sparse 1 1 ∷ recursive 1 1 ∷ call 0 0 1 ∷ []) ∷
+    bytesOfAll (headRecord false 1 1 ∷ recursive 1 1 ∷ call 0 0 0 ∷ []) ∷
+    bytesOfAll (headRecord false 1 1 ∷ sparse 1 1 ∷ recursive 0 1 ∷ call 0 0 0 ∷ []) ∷
+    bytesOfAll (headRecord false 1 1 ∷ sparse 1 1 ∷ recursive 1 1 ∷ call 0 0 1 ∷ []) ∷
     -- 12 and 13
-    bytesOfAll (headRecord 1 1 ∷ sparse 1 0 ∷ Record.End ∷ []) ∷
-    bytesOfAll (headRecord 1 1 ∷ sparse 1 1 ∷ Record.End ∷ Record.End ∷ []) ∷
+    bytesOfAll (headRecord false 1 1 ∷ sparse 1 0 ∷ Record.End ∷ []) ∷
+    bytesOfAll (headRecord false 1 1 ∷ sparse 1 1 ∷ Record.End ∷ Record.End ∷ []) ∷
     -- two faults in one record: 7 before 8, 9 before 11, 10 before 11 and 12 before 13
-    bytesOfAll (headRecord 1 1 ∷ sparse 1 1 ∷ cell 2 0 p ∷ []) ∷
-    bytesOfAll (headRecord 1 1 ∷ recursive 1 1 ∷ call 0 1 0 ∷ []) ∷
-    bytesOfAll (headRecord 1 1 ∷ sparse 1 1 ∷ recursive 0 1 ∷ call 0 1 0 ∷ []) ∷
-    bytesOfAll (headRecord 1 1 ∷ sparse 1 0 ∷ Record.End ∷ Record.End ∷ []) ∷
+    bytesOfAll (headRecord false 1 1 ∷ sparse 1 1 ∷ cell 2 0 p ∷ []) ∷
+    bytesOfAll (headRecord false 1 1 ∷ recursive 1 1 ∷ call 0 1 0 ∷ []) ∷
+    bytesOfAll (headRecord false 1 1 ∷ sparse 1 1 ∷ recursive 0 1 ∷ call 0 1 0 ∷ []) ∷
+    bytesOfAll (headRecord false 1 1 ∷ sparse 1 0 ∷ Record.End ∷ Record.End ∷ []) ∷
     []
 
 faults :
@@ -92,9 +104,14 @@ faults :
     refused 3 3 ∷
     refused 4 3 ∷
     refused 4 3 ∷
+    refused 4 3 ∷
+    refused 4 9 ∷
+    refused 4 9 ∷
     refused 5 0 ∷
     refused 5 3 ∷
     refused 7 6 ∷
+    refused 8 6 ∷
+    refused 8 9 ∷
     refused 8 6 ∷
     refused 9 6 ∷
     refused 10 9 ∷

@@ -8,13 +8,12 @@ use borrow.Author.Tests.{le-ltb}
 use lib.ListN.{length, length-append}
 use lib.Seq.{append-snoc}
 use Rattle.refusal.specs.Outcome.{Outcome, given}
-use Rattle.records.specs.Kinds.{encoded}
+use Rattle.records.specs.Kinds.{encoded, bytesOfAll}
 use Rattle.records.specs.declared.Record.{Record}
 use Rattle.arrays.specs.WellFormed.{Each}
 use Rattle.rules.specs.Inner.{AllKept}
 use Rattle.rules.specs.Rules.{Rule, afterRules}
 use Rattle.key.specs.Check.{firstBroken, rulesOf, rulesBehind, judgedBy, judged, countsOf}
-use Rattle.key.specs.Encoding.{bytesOfAll}
 use Rattle.key.specs.Reading.{Located}
 use Rattle.key.specs.declared.Counts.{Counts}
 use Rattle.key.proofs.EndOrOnward.{Onward, behind-onward}

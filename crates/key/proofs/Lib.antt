@@ -8,7 +8,7 @@ pub mod Answers
 pub mod RecordsBefore
 -- What a reading is, by what can be taken at an offset, and that the number of steps does not matter.
 pub mod ReadingSteps
--- The records of some arrays: the arrays that they are, and what they open.
+-- The records of some arrays in either edition: the arrays that they are, and what they open.
 pub mod Encodings
 -- How many arrays, cells and calls the records of some arrays are.
 pub mod KeyCounts
@@ -24,7 +24,7 @@ pub mod WellFormedFitsWidths
 pub mod ArraysBefore
 -- The records of well-formed arrays keep their rules, each behind the head and the arrays' records before it.
 pub mod WellFormedKeepsRules
--- The key of well-formed arrays, the last of the head's shape, is accepted, and its arrays are those.
+-- The key of well-formed arrays in either edition, the last of the head's shape, is accepted, and its arrays are those.
 pub mod WellFormedIsAccepted
 -- Where records and arrays begin that lie one behind the other.
 pub mod Offsets
@@ -40,7 +40,7 @@ pub mod KeptRecordFits
 pub mod RestOfAcceptedKey
 -- The records of an accepted key are a head, and what makes it the key of well-formed arrays.
 pub mod RecordsOfAcceptedKey
--- What it means that a key is accepted: it is the key of well-formed arrays.
+-- What it means that a key is accepted: it is the key of well-formed arrays in its edition.
 pub mod Acceptance
 -- A key has no more records than bytes and one, and so an accepted key has at most 65,537 cells and at most 65,537 calls.
 pub mod CountBounds

@@ -48,6 +48,8 @@ module _ (key : List ℕ) (at next : ℕ) where
   opening-stands (Record.Cell cell) e = tt
   opening-stands (Record.Call call) e = tt
   opening-stands Record.End e = tt
+  opening-stands (Record.ScaledHead shape) e = tt
+  opening-stands (Record.ScaledCall call) e = tt
 
 -- what is read of a called array is the shape of the opening with its number
 pub called-shape : (key starts : List ℕ) (openings : List Opening) → ShapesStand key starts openings → (i : ℕ) →

@@ -1,6 +1,7 @@
 -- The records that are read are taken one behind the other.
 -- Those of each array run from its offset to the next, and they are the bytes there.
 use Prim.Native.Nat.{ℕ, zero, suc, _+_, _-_, _<_}
+use mathlib.Core.Bool.{Bool}
 use mathlib.Core.List.{flatMap, List, [], _∷_, _++_, map, append-assoc}
 use mathlib.Core.Logic.{_⊎_, inl, inr}
 use mathlib.Core.Path.{_≡_, refl, sym, ap, ap₂, subst, _∙_}
@@ -8,7 +9,7 @@ use native.Mathlib.Omega.{arith}
 use lib.ListN.{length, getD, take, drop, take-append-drop}
 use lib.Seq.{drop-drop}
 use Rattle.refusal.specs.Outcome.{Outcome, given, refused}
-use Rattle.records.specs.Kinds.{recordOf, encoded}
+use Rattle.records.specs.Kinds.{recordOf, encoded, bytesOfAll}
 use Rattle.records.specs.Take.{Found, takenOutcome, takenAt}
 use Rattle.records.specs.declared.Record.{Record}
 use Rattle.records.specs.declared.Taken.{Taken}
@@ -16,7 +17,7 @@ use Rattle.records.proofs.FoundIsRecord.{found-taken}
 use Rattle.records.proofs.RoundTrip.{taken-bytes}
 use Rattle.arrays.specs.Arrays.{Array, arrayAt}
 use Rattle.key.specs.Before.{openingIn}
-use Rattle.key.specs.Encoding.{arrayRecords, arraysRecords, bytesOfAll}
+use Rattle.key.specs.Encoding.{arrayRecords, arraysRecords}
 use Rattle.key.specs.Index.{startsIn, Runs}
 use Rattle.key.specs.Reading.{Reading, behind, readAt, readFrom, locatedIn, items}
 use Rattle.rules.specs.declared.Opening.{Opening}
@@ -75,24 +76,24 @@ module _ (key : List ℕ) where
         subst (λ (m : ℕ). Runs key m more to) (behind-cons at r records) (later .1),
       )
 
-  pub arrays-run : (at : ℕ) (arrays : List Array) (more : List Record) (to : ℕ) → Runs key at (arraysRecords arrays ++ more) to →
+  pub arrays-run : (scaled : Bool) (at : ℕ) (arrays : List Array) (more : List Record) (to : ℕ) → Runs key at (arraysRecords scaled arrays ++ more) to →
       (i : ℕ) → i < length arrays →
-      Runs key (getD (arrayStarts at arrays) i 0) (arrayRecords (arrayAt arrays i))
-      (getD (arrayStarts at arrays ++ (offsetBehind at (arraysRecords arrays) ∷ [])) (suc i) 0)
+      Runs key (getD (arrayStarts scaled at arrays) i 0) (arrayRecords scaled (arrayAt arrays i))
+      (getD (arrayStarts scaled at arrays ++ (offsetBehind at (arraysRecords scaled arrays) ∷ [])) (suc i) 0)
   unfolding flatMap
-  arrays-run at [] more to runs i l = absurd (omega arith)
-  arrays-run at (array ∷ arrays) more to runs zero l =
-      runs-to at (arrayRecords array) _ _ (first-bound at (arrayRecords array) arrays)
-      (runs-apart at (arrayRecords array) (arraysRecords arrays ++ more) to
-      (subst (λ (rs : List Record). Runs key at rs to) (append-assoc (arrayRecords array) (arraysRecords arrays) more) runs) .0)
-  arrays-run at (array ∷ arrays) more to runs (suc i) l =
+  arrays-run scaled at [] more to runs i l = absurd (omega arith)
+  arrays-run scaled at (array ∷ arrays) more to runs zero l =
+      runs-to at (arrayRecords scaled array) _ _ (first-bound scaled at (arrayRecords scaled array) arrays)
+      (runs-apart at (arrayRecords scaled array) (arraysRecords scaled arrays ++ more) to
+      (subst (λ (rs : List Record). Runs key at rs to) (append-assoc (arrayRecords scaled array) (arraysRecords scaled arrays) more) runs) .0)
+  arrays-run scaled at (array ∷ arrays) more to runs (suc i) l =
       subst
-      (λ (end : ℕ). Runs key (getD (arrayStarts (offsetBehind at (arrayRecords array)) arrays) i 0) (arrayRecords (arrayAt arrays i))
-      (getD (arrayStarts (offsetBehind at (arrayRecords array)) arrays ++ (end ∷ [])) (suc i) 0))
-      (behind-append at (arrayRecords array) (arraysRecords arrays))
-      (arrays-run (offsetBehind at (arrayRecords array)) arrays more to
-      (runs-apart at (arrayRecords array) (arraysRecords arrays ++ more) to
-      (subst (λ (rs : List Record). Runs key at rs to) (append-assoc (arrayRecords array) (arraysRecords arrays) more) runs) .1)
+      (λ (end : ℕ). Runs key (getD (arrayStarts scaled (offsetBehind at (arrayRecords scaled array)) arrays) i 0) (arrayRecords scaled (arrayAt arrays i))
+      (getD (arrayStarts scaled (offsetBehind at (arrayRecords scaled array)) arrays ++ (end ∷ [])) (suc i) 0))
+      (behind-append at (arrayRecords scaled array) (arraysRecords scaled arrays))
+      (arrays-run scaled (offsetBehind at (arrayRecords scaled array)) arrays more to
+      (runs-apart at (arrayRecords scaled array) (arraysRecords scaled arrays ++ more) to
+      (subst (λ (rs : List Record). Runs key at rs to) (append-assoc (arrayRecords scaled array) (arraysRecords scaled arrays) more) runs) .1)
       i (omega arith))
 
   -- ---- the bytes

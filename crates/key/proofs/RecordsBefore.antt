@@ -11,7 +11,7 @@ use lib.ListN.{length, length-append}
 use lib.Seq.{getD-at}
 use Rattle.records.specs.Kinds.{kindOf}
 use Rattle.records.specs.declared.Record.{Record}
-use Rattle.key.specs.Before.{openingIn, opened, openNow, headOf, countOf}
+use Rattle.key.specs.Before.{openingIn, opened, openNow, firstOf, countOf, callCount}
 use Rattle.rules.specs.Rules.{notOpen}
 use Rattle.rules.specs.declared.Opening.{Opening}
 use Rattle.key.proofs.JoinedLists.{flatMap-append}
@@ -32,11 +32,27 @@ at-most-one : (b : Bool) → cond b 1 0 ≤ 1
 at-most-one true = omega arith
 at-most-one false = omega arith
 
+at-most-one-call : (r : Record) → cond (eqb (kindOf r) 0x05) 1 0 + cond (eqb (kindOf r) 0x08) 1 0 ≤ 1
+at-most-one-call (Record.Head shape) = omega arith
+at-most-one-call (Record.Sparse shape) = omega arith
+at-most-one-call (Record.Recursive shape) = omega arith
+at-most-one-call (Record.Cell cell) = omega arith
+at-most-one-call (Record.Call call) = omega arith
+at-most-one-call Record.End = omega arith
+at-most-one-call (Record.ScaledHead shape) = omega arith
+at-most-one-call (Record.ScaledCall call) = omega arith
+
 -- some records have no more of a kind among them than they are, and open no more arrays
 pub count-most : (kind : ℕ) (records : List Record) → countOf kind records ≤ length records
 unfolding countOf
 count-most kind [] = omega arith
 count-most kind (r ∷ records) = omega (arith, at-most-one (eqb (kindOf r) kind), count-most kind records)
+
+-- nor more calls
+pub calls-most : (records : List Record) → callCount records ≤ length records
+unfolding countOf
+calls-most [] = omega arith
+calls-most (r ∷ records) = omega (arith, at-most-one-call r, calls-most records)
 
 pub one-opening : (r : Record) → length (openingIn r) ≤ 1
 one-opening (Record.Head shape) = omega arith
@@ -45,6 +61,8 @@ one-opening (Record.Recursive shape) = omega arith
 one-opening (Record.Cell cell) = omega arith
 one-opening (Record.Call call) = omega arith
 one-opening Record.End = omega arith
+one-opening (Record.ScaledHead shape) = omega arith
+one-opening (Record.ScaledCall call) = omega arith
 
 pub opened-most : (records : List Record) → length (opened records) ≤ length records
 unfolding flatMap
@@ -61,9 +79,9 @@ open-last openings o =
 -- ---- the head
 
 -- behind the first record the head is known
-pub head-stays : (records more : List Record) → 0 < length records → headOf (records ++ more) ≡ headOf records
-head-stays [] more some = absurd (omega arith)
-head-stays (r ∷ records) more some = refl
+pub first-stays : (records more : List Record) → 0 < length records → firstOf (records ++ more) ≡ firstOf records
+first-stays [] more some = absurd (omega arith)
+first-stays (r ∷ records) more some = refl
 
 -- where an array of a kind is open, one was opened
 pub some-open : (openings : List Opening) (kind : ℕ) → 0 < kind → notOpen kind (openNow openings .kind) ≡ false → 0 < length openings

@@ -7,12 +7,11 @@ use lib.ListN.{length, length-append}
 use Rattle.refusal.specs.Number.{numberOf}
 use Rattle.refusal.specs.declared.Reason.{Reason}
 use Rattle.records.specs.Inner.{Fitting}
-use Rattle.records.specs.Kinds.{encoded}
+use Rattle.records.specs.Kinds.{encoded, bytesOfAll}
 use Rattle.records.specs.declared.Record.{Record}
 use Rattle.records.proofs.RoundTrip.{taken-between}
 use Rattle.records.proofs.TakeCases.{missing-refused}
 use Rattle.arrays.specs.WellFormed.{Each}
-use Rattle.key.specs.Encoding.{bytesOfAll}
 use Rattle.key.specs.Reading.{Reading, stopped, located, behind, readAt, readFrom, readingOf, locatedIn, items, recordsIn}
 use Rattle.key.proofs.EndOrOnward.{Onward, behind-onward}
 use Rattle.key.proofs.ReadingSteps.{read-record, read-stopped}

@@ -13,12 +13,12 @@ use Rattle.records.specs.declared.Shape.{Shape}
 use Rattle.rules.specs.Inner.{AllKept, Narrow}
 use Rattle.rules.specs.Rules.{notOpen, openingRules}
 use Rattle.rules.specs.declared.Opening.{Opening}
-use Rattle.key.specs.Before.{openingIn, opened, openNow, headOf, countOf}
+use Rattle.key.specs.Before.{openingIn, opened, openNow, firstOf, shapeIn, headOf, isScaledHead, isScaled, countOf, callCount}
 use Rattle.key.specs.Check.{rulesOf}
 use Rattle.key.specs.Inner.{seenIn, after}
 use Rattle.key.specs.declared.seen.Seen.{Seen}
 use Rattle.key.proofs.NonzeroTest.{not-nought}
-use Rattle.key.proofs.RecordsBefore.{opened-one, opened-most, count-append, open-last, head-stays, some-open}
+use Rattle.key.proofs.RecordsBefore.{opened-one, opened-most, count-append, open-last, first-stays, some-open}
 use Rattle.key.proofs.EndOrOnward.{Onward}
 
 follows : (before : List Record) (item : Record) → false ≡ eqb (length (before ++ (item ∷ []))) 0
@@ -29,62 +29,73 @@ open-begun : (before : List Record) (kind : ℕ) → 0 < kind → notOpen kind (
 open-begun before kind some e = omega (arith, some-open (opened before) kind some e, opened-most before)
 
 module _ (before : List Record) where
+  -- counts with a record more
+  abbrev Counted : Record → ℕ → ℕ → Type 0
+  Counted item cells calls =
+      (cells ≡ countOf 0x04 before + countOf 0x04 (item ∷ [])) × (calls ≡ callCount before + callCount (item ∷ []))
+
+  counted : (item : Record) (cells calls : ℕ) → Counted item cells calls →
+      (cells ≡ countOf 0x04 (before ++ (item ∷ []))) × (calls ≡ callCount (before ++ (item ∷ [])))
+  counted item cells calls counts = (
+    counts .0 ∙ sym (count-append 0x04 before (item ∷ [])),
+    omega (arith, counts .1, count-append 0x05 before (item ∷ []), count-append 0x08 before (item ∷ [])),
+  )
+
   -- what is seen behind a record that opens nothing and follows another
-  passed-seen : (item : Record) (cells calls : ℕ) → openingIn item ≡ [] → 0 < length before →
-      cells ≡ countOf 0x04 (before ++ (item ∷ [])) → calls ≡ countOf 0x05 (before ++ (item ∷ [])) →
+  passed-seen : (item : Record) (cells calls : ℕ) → openingIn item ≡ [] → 0 < length before → Counted item cells calls →
       record {
         first = false;
+        scaled = isScaled before;
         head = headOf before;
         array = openNow (opened before);
         arrays = length (opened before);
         cells = cells;
         calls = calls;
       } ≡ seenIn (before ++ (item ∷ []))
-  passed-seen item cells calls none some ce ca =
+  passed-seen item cells calls none some counts =
+      let now = counted item cells calls counts in
       let same : opened before ≡ opened (before ++ (item ∷ [])) =
       sym (append-nil (opened before)) ∙ ap (λ (o : List Opening). opened before ++ o) (sym none) ∙ sym (opened-one before item) in
-      let head : headOf before ≡ headOf (before ++ (item ∷ [])) = sym (head-stays before (item ∷ []) some) in
+      let first : firstOf before ≡ firstOf (before ++ (item ∷ [])) = sym (first-stays before (item ∷ []) some) in
       λ i. record {
         first = follows before item i;
-        head = head i;
+        scaled = isScaledHead (first i);
+        head = shapeIn (first i);
         array = openNow (same i);
         arrays = length (same i);
-        cells = ce i;
-        calls = ca i;
+        cells = now .0 i;
+        calls = now .1 i;
       }
 
   -- what is seen behind an array's opening
   opening-seen : (item : Record) (o : Opening) → openingIn item ≡ o ∷ [] → 0 < length before →
-      countOf 0x04 before ≡ countOf 0x04 (before ++ (item ∷ [])) → countOf 0x05 before ≡ countOf 0x05 (before ++ (item ∷ [])) →
+      Counted item (countOf 0x04 before) (callCount before) →
       record {
         first = false;
+        scaled = isScaled before;
         head = headOf before;
         array = o;
         arrays = length (opened before) + 1;
         cells = countOf 0x04 before;
-        calls = countOf 0x05 before;
+        calls = callCount before;
       } ≡ seenIn (before ++ (item ∷ []))
-  opening-seen item o one some ce ca =
+  opening-seen item o one some counts =
+      let now = counted item (countOf 0x04 before) (callCount before) counts in
       let more : opened (before ++ (item ∷ [])) ≡ opened before ++ (o ∷ []) =
       opened-one before item ∙ ap (λ (x : List Opening). opened before ++ x) one in
-      let head : headOf before ≡ headOf (before ++ (item ∷ [])) = sym (head-stays before (item ∷ []) some) in
+      let first : firstOf before ≡ firstOf (before ++ (item ∷ [])) = sym (first-stays before (item ∷ []) some) in
       let array : o ≡ openNow (opened (before ++ (item ∷ []))) = sym (ap openNow more ∙ open-last (opened before) o) in
       let arrays : length (opened before) + 1 ≡ length (opened (before ++ (item ∷ []))) =
       sym (ap length more ∙ length-append (opened before) (o ∷ [])) in
       λ i. record {
         first = follows before item i;
-        head = head i;
+        scaled = isScaledHead (first i);
+        head = shapeIn (first i);
         array = array i;
         arrays = arrays i;
-        cells = ce i;
-        calls = ca i;
+        cells = now .0 i;
+        calls = now .1 i;
       }
-
-  count-same : (kind : ℕ) (item : Record) → countOf kind (item ∷ []) ≡ 0 → countOf kind before ≡ countOf kind (before ++ (item ∷ []))
-  count-same kind item none = omega (arith, count-append kind before (item ∷ []))
-
-  count-more : (kind : ℕ) (item : Record) → countOf kind (item ∷ []) ≡ 1 → countOf kind before + 1 ≡ countOf kind (before ++ (item ∷ []))
-  count-more kind item one = omega (arith, count-append kind before (item ∷ []))
 
 -- what is seen behind a record that keeps its rules and is no end
 pub seen-next : (before : List Record) (item : Record) → Onward item → AllKept (rulesOf before item) →
@@ -94,20 +105,24 @@ seen-next [] (Record.Head shape) on kept = refl
 seen-next (r ∷ before) (Record.Head shape) on kept =
     absurd (omega (arith, eqb-true (length (r ∷ before)) 0 (not-false _ (kept .0))))
 seen-next before (Record.Sparse shape) on kept =
-    opening-seen before (Record.Sparse shape) (record { kind = 0x02; shape = shape }) refl (pos-of-ne-zero (eqb-false (length before) 0 (kept .0)))
-    (count-same before 0x04 (Record.Sparse shape) refl) (count-same before 0x05 (Record.Sparse shape) refl)
+    opening-seen before (Record.Sparse shape) (record { kind = 0x02; shape = shape }) refl
+    (pos-of-ne-zero (eqb-false (length before) 0 (kept .0))) (omega arith)
 seen-next before (Record.Recursive shape) on kept =
-    opening-seen before (Record.Recursive shape) (record { kind = 0x03; shape = shape }) refl (pos-of-ne-zero (eqb-false (length before) 0 (kept .0)))
-    (count-same before 0x04 (Record.Recursive shape) refl) (count-same before 0x05 (Record.Recursive shape) refl)
+    opening-seen before (Record.Recursive shape) (record { kind = 0x03; shape = shape }) refl
+    (pos-of-ne-zero (eqb-false (length before) 0 (kept .0))) (omega arith)
 seen-next before (Record.Cell cell) on kept =
-    passed-seen before (Record.Cell cell) (countOf 0x04 before + 1) (countOf 0x05 before) refl
-    (open-begun before 0x02 (omega arith) (kept .0))
-    (count-more before 0x04 (Record.Cell cell) refl) (count-same before 0x05 (Record.Cell cell) refl)
+    passed-seen before (Record.Cell cell) (countOf 0x04 before + 1) (callCount before) refl
+    (open-begun before 0x02 (omega arith) (kept .0)) (omega arith)
 seen-next before (Record.Call call) on kept =
-    passed-seen before (Record.Call call) (countOf 0x04 before) (countOf 0x05 before + 1) refl
-    (open-begun before 0x03 (omega arith) (kept .0))
-    (count-same before 0x04 (Record.Call call) refl) (count-more before 0x05 (Record.Call call) refl)
+    passed-seen before (Record.Call call) (countOf 0x04 before) (callCount before + 1) refl
+    (open-begun before 0x03 (omega arith) (kept .0)) (omega arith)
 seen-next before Record.End on kept = absurd (false≢true (sym on))
+seen-next [] (Record.ScaledHead shape) on kept = refl
+seen-next (r ∷ before) (Record.ScaledHead shape) on kept =
+    absurd (omega (arith, eqb-true (length (r ∷ before)) 0 (not-false _ (kept .0))))
+seen-next before (Record.ScaledCall call) on kept =
+    passed-seen before (Record.ScaledCall call) (countOf 0x04 before) (callCount before + 1) refl
+    (open-begun before 0x03 (omega arith) (kept .0)) (omega arith)
 
 -- at most 1,024 arrays are opened behind a record that keeps its rules
 pub arrays-next : (before : List Record) (item : Record) → AllKept (rulesOf before item) → length (opened before) ≤ 1024 →
@@ -122,6 +137,8 @@ arrays-next before item kept most = omega (arith, length-append (opened before) 
     go (Record.Cell cell) kept = omega (arith, most)
     go (Record.Call call) kept = omega (arith, most)
     go Record.End kept = omega (arith, most)
+    go (Record.ScaledHead shape) kept = omega (arith, most)
+    go (Record.ScaledCall call) kept = omega (arith, most)
 
 -- the head and the array that is open have at most 30 bits a side behind a record that keeps its rules
 pub narrow-next : (before : List Record) (seen : Seen) → seen ≡ seenIn before → (item : Record) → AllKept (rulesOf before item) →
@@ -145,3 +162,5 @@ narrow-next before seen is item kept head array = go item kept
     go (Record.Cell cell) kept = (head, array)
     go (Record.Call call) kept = (head, array)
     go Record.End kept = (head, array)
+    go (Record.ScaledHead shape) kept = ((ltb-false 30 (shape .rows) (kept .1 .0), ltb-false 30 (shape .columns) (kept .1 .1 .0)), array)
+    go (Record.ScaledCall call) kept = (head, array)

@@ -8,10 +8,10 @@ use Rattle.refusal.specs.Outcome.{Outcome}
 use Rattle.records.specs.declared.Record.{Record}
 use Rattle.records.specs.declared.Shape.{Shape}
 use Rattle.rules.specs.Inner.{heldTo, AllKept}
-use Rattle.rules.specs.Rules.{Rule, callRules}
+use Rattle.rules.specs.Rules.{Rule, callRules, scaledCallRules}
 use Rattle.rules.specs.declared.Verdict.{Verdict}
 use Rattle.rules.proofs.Verdicts.{held-kept}
-use Rattle.key.specs.Before.{openingIn, opened, openNow, headOf, countOf}
+use Rattle.key.specs.Before.{openingIn, opened, openNow, headOf, isScaled, countOf, callCount}
 use Rattle.key.specs.Check.{countsOf, firstBroken, rulesOf, rulesBehind, judgedBy}
 use Rattle.key.specs.Inner.{ShapesStand, countsSeen, rulesSeen, verdictOn, seenIn}
 use Rattle.key.specs.declared.seen.Seen.{Seen}
@@ -29,9 +29,13 @@ rules-seen before key starts stand (Record.Sparse shape) = refl
 rules-seen before key starts stand (Record.Recursive shape) = refl
 rules-seen before key starts stand (Record.Cell cell) = refl
 rules-seen before key starts stand (Record.Call call) =
-    ap (λ (called : Shape). callRules (openNow (opened before)) (length (opened before) - 1) called call)
+    ap (λ (called : Shape). callRules (isScaled before) (openNow (opened before)) (length (opened before) - 1) called call)
     (called-shape key starts (opened before) stand (call .id))
 rules-seen before key starts stand Record.End = refl
+rules-seen before key starts stand (Record.ScaledHead shape) = refl
+rules-seen before key starts stand (Record.ScaledCall call) =
+    ap (λ (called : Shape). scaledCallRules (isScaled before) (openNow (opened before)) (length (opened before) - 1) called call)
+    (called-shape key starts (opened before) stand (call .id))
 
 -- where the verdict is that the rules are kept, they are: by what was seen
 pub rules-kept : (seen : Seen) (key starts : List ℕ) (at next : ℕ) (item : Record) →
@@ -67,8 +71,8 @@ counts-end before =
     flatMap-append openingIn before (Record.End ∷ []) ∙ append-nil (opened before) in
     let cells : countOf 0x04 (before ++ (Record.End ∷ [])) ≡ countOf 0x04 before =
     omega (arith, count-append 0x04 before (Record.End ∷ [])) in
-    let calls : countOf 0x05 (before ++ (Record.End ∷ [])) ≡ countOf 0x05 before =
-    omega (arith, count-append 0x05 before (Record.End ∷ [])) in
+    let calls : callCount (before ++ (Record.End ∷ [])) ≡ callCount before =
+    omega (arith, count-append 0x05 before (Record.End ∷ []), count-append 0x08 before (Record.End ∷ [])) in
     λ i. record {
       arrays = length (openings i);
       cells = cells i;

@@ -1,6 +1,6 @@
 -- The records of well-formed arrays keep their rules, each behind the head and the arrays' records before it.
 use Prim.Native.Nat.{ℕ, _-_, _≤_, _<_}
-use mathlib.Core.Bool.{false, not}
+use mathlib.Core.Bool.{Bool, true, false, not}
 use mathlib.Core.List.{List, [], _∷_, _++_, map}
 use mathlib.Core.Path.{_≡_, refl, sym, ap, _∙_}
 use native.Mathlib.Omega.{arith}
@@ -12,21 +12,22 @@ use Rattle.arrays.specs.Arrays.{Cell, Call, Entries, cells, calls, Array, array
 use Rattle.arrays.specs.Placing.{blocks}
 use Rattle.arrays.specs.WellFormed.{Each, CellFits, CallFits, EntriesFit, LastOfShape}
 use Rattle.rules.specs.Inner.{AllKept}
-use Rattle.key.specs.Before.{openingIn, opened, openingAt, openNow, headOf}
+use Rattle.key.specs.Before.{openingIn, opened, openingAt, openNow, headOf, isScaled}
 use Rattle.key.specs.Check.{rulesOf}
 use Rattle.key.specs.Encoding.{headRecord, cellRecord, callRecord, openingRecord, entryRecords}
 use Rattle.rules.specs.Rules.{unlike, openingRules}
 use Rattle.rules.specs.declared.Opening.{Opening}
 use Rattle.key.proofs.ArraysBefore.{Past, past-entry, not-first, opening-at, open-now, array-open}
-use Rattle.key.proofs.Encodings.{arrayWith, openingOf}
+use Rattle.key.proofs.Encodings.{arrayWith, call-unopened, openingOf}
 use Rattle.key.proofs.KeepsRulesIsAccepted.{Keeping}
 use Rattle.key.proofs.NonzeroTest.{not-nought}
 
 -- ---- the head, an opening and the end
 
-pub head-kept : (n n' : ℕ) → n ≤ 30 → n' ≤ 30 → AllKept (rulesOf [] (headRecord n n'))
+pub head-kept : (scaled : Bool) (n n' : ℕ) → n ≤ 30 → n' ≤ 30 → AllKept (rulesOf [] (headRecord scaled n n'))
 unfolding rulesOf
-head-kept n n' l l' = (refl, omega (arith, lt-leb))
+head-kept false n n' l l' = (refl, omega (arith, lt-leb))
+head-kept true n n' l l' = (refl, omega (arith, lt-leb))
 
 -- both kinds of opening have the same rules
 opening-rules : (k k' : ℕ) (entries : Entries) (before : List Record) →
@@ -36,20 +37,20 @@ unfolding rulesOf
 opening-rules k k' (cells list) before = refl
 opening-rules k k' (calls list) before = refl
 
-pub opening-kept : (n n' k k' : ℕ) (entries : Entries) (done : List Array) (before : List Record) → Past n n' done before →
+pub opening-kept : (scaled : Bool) (n n' k k' : ℕ) (entries : Entries) (done : List Array) (before : List Record) → Past scaled n n' done before →
     length done < 1024 → k ≤ n → k' ≤ n' → AllKept (rulesOf before (openingRecord k k' entries))
-opening-kept n n' k k' entries done before past few l l' =
+opening-kept scaled n n' k k' entries done before past few l l' =
     rw (opening-rules k k' entries before, past .head)
-    (not-first n n' before done past, omega (arith, lt-leb, ap length (past .openings), length-map done openingOf))
+    (not-first scaled n n' before done past, omega (arith, lt-leb, ap length (past .openings), length-map done openingOf))
 
 -- the same bits
 alike : (n k : ℕ) → k ≡ n → unlike n k ≡ false
 alike n k e = ap not (eq-eqb k n e)
 
-pub end-kept : (n n' : ℕ) (all : List Array) (before : List Record) → Past n n' all before → LastOfShape n n' all →
+pub end-kept : (scaled : Bool) (n n' : ℕ) (all : List Array) (before : List Record) → Past scaled n n' all before → LastOfShape n n' all →
     AllKept (rulesOf before Record.End)
 unfolding rulesOf
-end-kept n n' all before past last =
+end-kept scaled n n' all before past last =
     rw (past .head, past .openings, open-now all (last .some-array))
     (omega (arith, not-nought, alike, last, length-map all openingOf))
 
@@ -62,39 +63,42 @@ cell-kept : (k k' : ℕ) (before : List Record) (c : Cell) →
 unfolding rulesOf
 cell-kept k k' before c now fits = rw now (refl, omega (arith, lt-leb, fits))
 
-call-kept : (all : List Array) (i k k' : ℕ) (before : List Record) (c : Call) →
+call-kept : (scaled : Bool) (all : List Array) (i k k' : ℕ) (before : List Record) (c : Call) → isScaled before ≡ scaled →
     openNow (opened before) ≡ record { kind = 0x03; shape = record { rows = k; columns = k' } } →
     length (opened before) - 1 ≡ i → openingAt (opened before) (c .id) ≡ openingOf (arrayAt all (c .id)) →
-    CallFits blocks blocks all i k k' c → AllKept (rulesOf before (callRecord c))
+    CallFits blocks blocks all i k k' c → AllKept (rulesOf before (callRecord scaled c))
 unfolding rulesOf
-call-kept all i k k' before c now own called fits = rw (now, own, called) (refl, omega (arith, lt-leb, fits))
+call-kept false all i k k' before c edition now own called fits =
+    rw (edition, now, own, called) (refl, (refl, omega (arith, lt-leb, fits)))
+call-kept true all i k k' before c edition now own called fits =
+    rw (edition, now, own, called) (refl, (refl, omega (arith, lt-leb, fits)))
 
 -- entries that open no array, each of which keeps its rules behind the same openings
-list-kept : (n n' : ℕ) (arrays : List Array) {A : Type 0} (item : A → Record) (P : A → Type 0) →
+list-kept : (scaled : Bool) (n n' : ℕ) (arrays : List Array) {A : Type 0} (item : A → Record) (P : A → Type 0) →
     ((x : A) → openingIn (item x) ≡ []) →
-    ((before : List Record) (x : A) → Past n n' arrays before → P x → AllKept (rulesOf before (item x))) →
-    (list : List A) (before : List Record) → Past n n' arrays before → Each P list → Keeping before (map item list)
-list-kept n n' arrays item P none keeps [] before past fit = tt
-list-kept n n' arrays item P none keeps (x ∷ list) before past fit = (
+    ((before : List Record) (x : A) → Past scaled n n' arrays before → P x → AllKept (rulesOf before (item x))) →
+    (list : List A) (before : List Record) → Past scaled n n' arrays before → Each P list → Keeping before (map item list)
+list-kept scaled n n' arrays item P none keeps [] before past fit = tt
+list-kept scaled n n' arrays item P none keeps (x ∷ list) before past fit = (
   keeps before x past (fit .0),
-  list-kept n n' arrays item P none keeps list (before ++ (item x ∷ []))
-      (past-entry n n' before arrays (item x) past (none x)) (fit .1),
+  list-kept scaled n n' arrays item P none keeps list (before ++ (item x ∷ []))
+      (past-entry scaled n n' before arrays (item x) past (none x)) (fit .1),
 )
 
 -- an array's entries, behind its opening and the arrays that are done
-pub entries-kept : (n n' : ℕ) (all done todo : List Array) (k k' : ℕ) (entries : Entries) →
+pub entries-kept : (scaled : Bool) (n n' : ℕ) (all done todo : List Array) (k k' : ℕ) (entries : Entries) →
     all ≡ (done ++ (arrayWith k k' entries ∷ [])) ++ todo → (before : List Record) →
-    Past n n' (done ++ (arrayWith k k' entries ∷ [])) before → EntriesFit blocks blocks all (length done) k k' entries →
-    Keeping before (entryRecords entries)
-entries-kept n n' all done todo k k' (cells list) e before past fit =
-    list-kept n n' (done ++ (arrayWith k k' (cells list) ∷ [])) cellRecord (CellFits k k') (λ c. refl)
+    Past scaled n n' (done ++ (arrayWith k k' entries ∷ [])) before → EntriesFit blocks blocks all (length done) k k' entries →
+    Keeping before (entryRecords scaled entries)
+entries-kept scaled n n' all done todo k k' (cells list) e before past fit =
+    list-kept scaled n n' (done ++ (arrayWith k k' (cells list) ∷ [])) cellRecord (CellFits k k') (λ c. refl)
     (λ earlier c held fits.
     cell-kept k k' earlier c (ap openNow (held .openings) ∙ array-open done (arrayWith k k' (cells list))) fits)
     list before past fit
-entries-kept n n' all done todo k k' (calls list) e before past fit =
-    list-kept n n' sofar callRecord (CallFits blocks blocks all (length done) k k') (λ c. refl)
+entries-kept scaled n n' all done todo k k' (calls list) e before past fit =
+    list-kept scaled n n' sofar (callRecord scaled) (CallFits blocks blocks all (length done) k k') (call-unopened scaled)
     (λ earlier c held fits.
-    call-kept all (length done) k k' earlier c
+    call-kept scaled all (length done) k k' earlier c (held .edition)
     (ap openNow (held .openings) ∙ array-open done array)
     (ap (λ (l : List Opening). length l - 1) (held .openings) ∙ ap (λ (m : ℕ). m - 1) (length-map sofar openingOf) ∙ own)
     (ap (λ (l : List Opening). openingAt l (c .id)) (held .openings) ∙ called (c .id) (fits .earlier))

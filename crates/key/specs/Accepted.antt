@@ -1,4 +1,4 @@
--- What it means that a key is accepted: it is the key of well-formed arrays.
+-- What it means that a key is accepted: it is the key of well-formed arrays in its edition.
 use Prim.Native.Nat.{ℕ, _≤_, _<_}
 use mathlib.Core.List.{List}
 use mathlib.Core.Path.{_≡_}
@@ -7,9 +7,9 @@ use Rattle.arrays.specs.Arrays.{Array}
 use Rattle.arrays.specs.Placing.{blocks}
 use Rattle.arrays.specs.Totals.{cellsIn, callsIn, totalOf}
 use Rattle.arrays.specs.WellFormed.{WellFormed, LastOfShape}
-use Rattle.key.specs.Encoding.{keyRecords, keyBytes}
+use Rattle.key.specs.Encoding.{keyRecords, keyBytes, InEdition}
 use Rattle.key.specs.Index.{startsOf, Indexes}
-use Rattle.key.specs.KeyArrays.{keyArrays}
+use Rattle.key.specs.KeyArrays.{keyArrays, keyScaled}
 use Rattle.key.specs.Reading.{recordsIn}
 use Rattle.key.specs.declared.Counts.{Counts}
 
@@ -33,8 +33,9 @@ pub record Accepted (key : List ℕ) (counts : Counts) : Type 0 where
   pub at-most-1024 : length (keyArrays key) ≤ 1024
   -- the counts are theirs
   pub counted : counts ≡ arrayCounts (counts .rows) (counts .columns) (keyArrays key)
-  -- its records are a head, those of its arrays and an end, and its bytes are those of its records
-  pub records : recordsIn key ≡ keyRecords (counts .rows) (counts .columns) (keyArrays key)
-  pub bytes : ((i : ℕ) → getD key i 0 < 256) → key ≡ keyBytes (counts .rows) (counts .columns) (keyArrays key)
+  -- its records are a head, those of its arrays and an end, all of its edition, and its bytes are those of its records
+  pub in-edition : InEdition (keyScaled key) (keyArrays key)
+  pub records : recordsIn key ≡ keyRecords (keyScaled key) (counts .rows) (counts .columns) (keyArrays key)
+  pub bytes : ((i : ℕ) → getD key i 0 < 256) → key ≡ keyBytes (keyScaled key) (counts .rows) (counts .columns) (keyArrays key)
   -- the index finds each array
   pub index : Indexes key (startsOf key) (keyArrays key)

@@ -1,6 +1,7 @@
--- What the records before a record say: the head's shape, the arrays that they open, and how many cells and calls they are.
+-- What the records before a record say: the head's edition and shape, the arrays that they open, and how many cells and calls
+-- they are.
 use Prim.Native.Nat.{ℕ, _+_, _-_}
-use mathlib.Core.Bool.{cond}
+use mathlib.Core.Bool.{Bool, cond}
 use mathlib.Core.List.{List, [], _∷_, flatMap}
 use lib.Dec.{eqb}
 use lib.ListN.{length, getD}
@@ -17,6 +18,8 @@ openingIn (Record.Recursive shape) = record { kind = 0x03; shape = shape } ∷ [
 openingIn (Record.Cell cell) = []
 openingIn (Record.Call call) = []
 openingIn Record.End = []
+openingIn (Record.ScaledHead shape) = []
+openingIn (Record.ScaledCall call) = []
 
 -- the openings among some records: array i is opened by the one numbered i
 abbrev pub opened : List Record → List Opening
@@ -38,12 +41,30 @@ shapeIn (Record.Recursive shape) = shape
 shapeIn (Record.Cell cell) = record { rows = 0; columns = 0 }
 shapeIn (Record.Call call) = record { rows = 0; columns = 0 }
 shapeIn Record.End = record { rows = 0; columns = 0 }
+shapeIn (Record.ScaledHead shape) = shape
+shapeIn (Record.ScaledCall call) = record { rows = 0; columns = 0 }
+
+-- the first record; an end where there is none
+abbrev pub firstOf : List Record → Record
+firstOf records = getD records 0 Record.End
 
 -- the head's shape, n and n': that of the first record
 abbrev pub headOf : List Record → Shape
-headOf records = shapeIn (getD records 0 Record.End)
+headOf records = shapeIn (firstOf records)
+
+-- does a record begin a key of edition 2?
+abbrev pub isScaledHead : Record → Bool
+isScaledHead r = eqb (kindOf r) 0x07
+
+-- is the key of edition 2? The first record says it.
+abbrev pub isScaled : List Record → Bool
+isScaled records = isScaledHead (firstOf records)
 
 -- how many of some records are of a kind
 unfoldable pub countOf : ℕ → List Record → ℕ
 countOf kind [] = 0
 countOf kind (r ∷ records) = cond (eqb (kindOf r) kind) 1 0 + countOf kind records
+
+-- how many of some records are calls, of either edition
+abbrev pub callCount : List Record → ℕ
+callCount records = countOf 0x05 records + countOf 0x08 records

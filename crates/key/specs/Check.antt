@@ -1,4 +1,4 @@
--- What check answers for a key (01, 'An accepted key' and 'Order'). The records before are all that a judgement of a record
+-- What check answers for a key (01, 'An accepted key' and 'Order'; 02, E9). The records before are all that a judgement of a record
 -- goes by.
 use Prim.Native.Nat.{ℕ, _-_}
 use mathlib.Core.Bool.{cond}
@@ -8,8 +8,8 @@ use lib.ListN.{length}
 use Rattle.refusal.specs.Outcome.{Outcome, given, refused, refuse, refusalOf}
 use Rattle.refusal.specs.declared.Reason.{Reason}
 use Rattle.records.specs.declared.Record.{Record}
-use Rattle.rules.specs.Rules.{Rule, headRules, openingRules, cellRules, callRules, endRules, afterRules}
-use Rattle.key.specs.Before.{opened, openingAt, openNow, headOf, countOf}
+use Rattle.rules.specs.Rules.{Rule, headRules, openingRules, cellRules, callRules, scaledCallRules, endRules, afterRules}
+use Rattle.key.specs.Before.{opened, openingAt, openNow, headOf, isScaled, countOf, callCount}
 use Rattle.key.specs.Reading.{Located, Reading, ended, stopped, located, isEnd, readingOf}
 use Rattle.key.specs.declared.Checked.{Checked}
 use Rattle.key.specs.declared.Counts.{Counts}
@@ -33,8 +33,13 @@ rulesOf before (Record.Recursive shape) =
     openingRules (eqb (length before) 0) (headOf before) (length (opened before)) shape
 rulesOf before (Record.Cell cell) = cellRules (openNow (opened before)) cell
 rulesOf before (Record.Call call) =
-    callRules (openNow (opened before)) (length (opened before) - 1) (openingAt (opened before) (call .id) .shape) call
+    callRules (isScaled before) (openNow (opened before)) (length (opened before) - 1)
+    (openingAt (opened before) (call .id) .shape) call
 rulesOf before Record.End = endRules (headOf before) (length (opened before)) (openNow (opened before))
+rulesOf before (Record.ScaledHead shape) = headRules (eqb (length before) 0) shape
+rulesOf before (Record.ScaledCall call) =
+    scaledCallRules (isScaled before) (openNow (opened before)) (length (opened before) - 1)
+    (openingAt (opened before) (call .id) .shape) call
 
 -- what may stand behind a record, up to the key's length: behind an end, nothing
 unfoldable pub rulesBehind : Record → ℕ → ℕ → List Rule
@@ -51,7 +56,7 @@ countsOf records =
     record {
       arrays = length (opened records);
       cells = countOf 0x04 records;
-      calls = countOf 0x05 records;
+      calls = callCount records;
       rows = headOf records .rows;
       columns = headOf records .columns;
     }

@@ -12,6 +12,7 @@ use Rattle.arrays.specs.Arrays.{Array, arrayAt}
 use Rattle.key.specs.Before.{openingIn}
 use Rattle.key.specs.Check.{checkedKey}
 use Rattle.key.specs.Encoding.{arrayRecords}
+use Rattle.key.specs.KeyArrays.{keyScaled}
 use Rattle.key.specs.Reading.{Located, readingOf, locatedIn}
 use Rattle.key.specs.declared.Counts.{Counts}
 
@@ -41,5 +42,5 @@ Runs key from (r ∷ records) to =
 pub record Indexes (key starts : List ℕ) (arrays : List Array) : Type 0 where
   pub one-each : length starts ≡ length arrays
   pub runs : (i : ℕ) → i < length arrays →
-      Runs key (getD starts i 0) (arrayRecords (arrayAt arrays i)) (getD (starts ++ ((length key - 1) ∷ [])) (i + 1) 0)
+      Runs key (getD starts i 0) (arrayRecords (keyScaled key) (arrayAt arrays i)) (getD (starts ++ ((length key - 1) ∷ [])) (i + 1) 0)
   pub end : takenAt key (length key - 1) ≡ takenOutcome (Taken.Record Record.End (length key))

@@ -11,6 +11,10 @@ use Rattle.key.specs.Index.{startsOf}
 use Rattle.key.specs.KeyArrays.{keyArrays}
 use Rattle.key.specs.declared.Counts.{Counts}
 
+-- a key that is accepted
+abbrev pub IsAccepted : List ℕ → Type 0
+IsAccepted key = (counts : Counts) × (checkedKey key ≡ given counts)
+
 -- an accepted key, with a table whose first places hold the offsets of its arrays
 pub record Indexed (key starts : List ℕ) : Type 0 where
   pub counts : Counts

@@ -12,11 +12,11 @@ use Rattle.records.specs.declared.Record.{Record}
 use Rattle.records.specs.declared.Shape.{Shape}
 use Rattle.records.specs.declared.Taken.{Taken}
 use Rattle.arrays.specs.WellFormed.{Each}
-use Rattle.rules.specs.Inner.{heldTo, AllKept, shapeRead, Narrow, callRulesIn}
+use Rattle.rules.specs.Inner.{heldTo, AllKept, shapeRead, Narrow, callRulesIn, scaledCallRulesIn}
 use Rattle.rules.specs.Rules.{Rule, headRules, openingRules, cellRules, endRules}
 use Rattle.rules.specs.declared.Opening.{Opening}
 use Rattle.rules.specs.declared.Verdict.{Verdict}
-use Rattle.key.specs.Before.{opened, openingAt, openNow, headOf, countOf}
+use Rattle.key.specs.Before.{opened, openingAt, openNow, headOf, isScaled, countOf, callCount}
 use Rattle.key.specs.Check.{rulesBehind, judged, checkedKey}
 use Rattle.key.specs.Index.{Runs, startsIn}
 use Rattle.key.specs.Reading.{Located, isEnd, readFrom, readingOf, locatedIn, items}
@@ -39,8 +39,11 @@ rulesSeen seen key starts (Record.Head shape) = headRules (seen .first) shape
 rulesSeen seen key starts (Record.Sparse shape) = openingRules (seen .first) (seen .head) (seen .arrays) shape
 rulesSeen seen key starts (Record.Recursive shape) = openingRules (seen .first) (seen .head) (seen .arrays) shape
 rulesSeen seen key starts (Record.Cell cell) = cellRules (seen .array) cell
-rulesSeen seen key starts (Record.Call call) = callRulesIn key starts (seen .array) (seen .arrays) call
+rulesSeen seen key starts (Record.Call call) = callRulesIn key starts (seen .scaled) (seen .array) (seen .arrays) call
 rulesSeen seen key starts Record.End = endRules (seen .head) (seen .arrays) (seen .array)
+rulesSeen seen key starts (Record.ScaledHead shape) = headRules (seen .first) shape
+rulesSeen seen key starts (Record.ScaledCall call) =
+    scaledCallRulesIn key starts (seen .scaled) (seen .array) (seen .arrays) call
 
 -- the verdict on a record whose bytes are those from `at` to `next`
 abbrev pub verdictOn : Seen → List ℕ → List ℕ → ℕ → ℕ → Record → Verdict
@@ -59,17 +62,20 @@ IsEntry (Record.Recursive shape) = ⊥
 IsEntry (Record.Cell cell) = Unit {0}
 IsEntry (Record.Call call) = Unit {0}
 IsEntry Record.End = ⊥
+IsEntry (Record.ScaledHead shape) = ⊥
+IsEntry (Record.ScaledCall call) = Unit {0}
 
 -- what is seen of the records before
 abbrev pub seenIn : List Record → Seen
 seenIn before =
     record {
       first = eqb (length before) 0;
+      scaled = isScaled before;
       head = headOf before;
       array = openNow (opened before);
       arrays = length (opened before);
       cells = countOf 0x04 before;
-      calls = countOf 0x05 before;
+      calls = callCount before;
     }
 
 -- what is seen behind an array's opening
@@ -77,6 +83,7 @@ abbrev pub opening : Seen → ℕ → Shape → Seen
 opening seen kind shape =
     record {
       first = false;
+      scaled = seen .scaled;
       head = seen .head;
       array = record { kind = kind; shape = shape };
       arrays = seen .arrays + 1;
@@ -84,11 +91,12 @@ opening seen kind shape =
       calls = seen .calls;
     }
 
--- what is seen behind other records, which change the head's shape and the counts of cells and calls alone
-abbrev pub passed : Seen → Shape → ℕ → ℕ → Seen
-passed seen head cells calls =
+-- what is seen behind other records, which change the edition, the head's shape and the counts of cells and calls alone
+abbrev pub passed : Seen → Bool → Shape → ℕ → ℕ → Seen
+passed seen scaled head cells calls =
     record {
       first = false;
+      scaled = scaled;
       head = head;
       array = seen .array;
       arrays = seen .arrays;
@@ -98,12 +106,14 @@ passed seen head cells calls =
 
 -- what is seen behind a record
 abbrev pub after : Seen → Record → Seen
-after seen (Record.Head shape) = passed seen shape (seen .cells) (seen .calls)
+after seen (Record.Head shape) = passed seen false shape (seen .cells) (seen .calls)
 after seen (Record.Sparse shape) = opening seen 0x02 shape
 after seen (Record.Recursive shape) = opening seen 0x03 shape
-after seen (Record.Cell cell) = passed seen (seen .head) (seen .cells + 1) (seen .calls)
-after seen (Record.Call call) = passed seen (seen .head) (seen .cells) (seen .calls + 1)
-after seen Record.End = passed seen (seen .head) (seen .cells) (seen .calls)
+after seen (Record.Cell cell) = passed seen (seen .scaled) (seen .head) (seen .cells + 1) (seen .calls)
+after seen (Record.Call call) = passed seen (seen .scaled) (seen .head) (seen .cells) (seen .calls + 1)
+after seen Record.End = passed seen (seen .scaled) (seen .head) (seen .cells) (seen .calls)
+after seen (Record.ScaledHead shape) = passed seen true shape (seen .cells) (seen .calls)
+after seen (Record.ScaledCall call) = passed seen (seen .scaled) (seen .head) (seen .cells) (seen .calls + 1)
 
 -- the counts of what was seen
 abbrev pub countsSeen : Seen → Counts

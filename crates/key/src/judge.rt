@@ -37,7 +37,17 @@ pub(crate) fn record(
             at,
         ),
         Record::Cell(c) => rules::cell(seen.array, c, at),
-        Record::Call(c) => rules::call(key, starts, seen.array, seen.arrays, c, at),
+        Record::Call(c) => rules::call(key, starts, seen.scaled, seen.array, seen.arrays, c, at),
         Record::End => rules::end(seen.head, seen.arrays, seen.array, key.len(), at, next),
+        Record::ScaledHead(shape) => rules::head(seen.first, shape, at),
+        Record::ScaledCall(c) => rules::scaled_call(
+            key,
+            starts,
+            seen.scaled,
+            seen.array,
+            seen.arrays,
+            c,
+            at,
+        ),
     }
 }

@@ -1,5 +1,6 @@
-// Runs over records that keep their rules: the head, the cells or the calls of an array, and one array behind the other. A run of entries
-// stops where none of its kind that keeps its rules follows; behind the last array only an end can keep its rules.
+// Runs over records that keep their rules: the head, the cells or the calls of an array, of either edition, and one array behind the
+// other. A run of entries stops where none of its kind that keeps its rules follows; behind the last array only an end can keep its
+// rules.
 use crate::seen;
 use crate::seen::Seen;
 use crate::table;
@@ -7,13 +8,13 @@ use records::Shape;
 use records::read;
 use rules::Opening;
 ghost use mathlib.Core.Path.{_≡_};
-ghost use mathlib.Core.Bool.{false};
+ghost use mathlib.Core.Bool.{true, false};
 ghost use mathlib.Core.List.{List};
 ghost use Prim.Native.Nat.{ℕ, min, _+_, _/_, _≤_, _<_};
 ghost use lib.ListN.{length, set};
 ghost use Rattle.records.specs.declared.Record.{Record};
 ghost use Rattle.rules.specs.Rules.{cellRules};
-ghost use Rattle.rules.specs.Inner.{Noted, Narrow, callRulesIn};
+ghost use Rattle.rules.specs.Inner.{Noted, Narrow, callRulesIn, scaledCallRulesIn};
 ghost use Rattle.key.specs.Inner.{Here, Only, Run, Fails, Tried, opensOrEnds, opening};
 ghost use Rattle.key.specs.Reading.{isEnd};
 
@@ -38,7 +39,8 @@ pub(crate) fn head(key: &[u8]) -> Reached
     if key.len() < 3 {
         return nothing;
     }
-    if key[0] != 1 {
+    let scaled = key[0] == 7;
+    if key[0] != 1 && !scaled {
         return nothing;
     }
     let shape = read::shape(key, 1);
@@ -47,7 +49,7 @@ pub(crate) fn head(key: &[u8]) -> Reached
         return nothing;
     }
     Reached {
-        seen: seen::headed(shape),
+        seen: seen::headed(scaled, shape),
         at: 3,
     }
 }
@@ -115,6 +117,13 @@ fn entries(key: &[u8], starts: &[u16], seen: Seen, from: usize) -> Reached
             at: behind,
         };
     }
+    if seen.scaled {
+        let behind = scaled_calls(key, starts, array, seen.arrays, from);
+        return Reached {
+            seen: seen::entered(seen, 0, (behind - from) / 15),
+            at: behind,
+        };
+    }
     let behind = calls(key, starts, array, seen.arrays, from);
     Reached {
         seen: seen::entered(seen, 0, (behind - from) / 11),
@@ -142,15 +151,15 @@ fn cells(key: &[u8], array: Opening, from: usize) -> usize
     at
 }
 
-// The offset behind the calls, from `from` on, that keep the rules of the array that is open, the last of so many. Inner: `from` lies in
-// the key, which is not too long; the arrays' offsets are noted, and the array that is open has at most 30 bits a side.
+// The offset behind the calls of edition 1, from `from` on, that keep the rules of the array that is open, the last of so many. Inner:
+// `from` lies in the key, which is not too long; the arrays' offsets are noted, and the array that is open has at most 30 bits a side.
 fn calls(key: &[u8], starts: &[u16], array: Opening, arrays: usize, from: usize) -> usize
     requires { ⌜ from ≤ length (now key) ⌝ }
     requires { ⌜ length (now key) ≤ 65536 ⌝ }
     requires { ⌜ Noted (now key) (now starts) arrays ⌝ }
     requires { ⌜ Narrow (array .shape) ⌝ }
-    ensures run { λ r. ⌜ Run (now (key .entry)) Record.Call (callRulesIn (now (key .entry)) (now (starts .entry)) array arrays) from r ⌝ }
-    ensures stops { λ r. ⌜ Fails (now (key .entry)) Record.Call (callRulesIn (now (key .entry)) (now (starts .entry)) array arrays) r ⌝ }
+    ensures run { λ r. ⌜ Run (now (key .entry)) Record.Call (callRulesIn (now (key .entry)) (now (starts .entry)) false array arrays) from r ⌝ }
+    ensures stops { λ r. ⌜ Fails (now (key .entry)) Record.Call (callRulesIn (now (key .entry)) (now (starts .entry)) false array arrays) r ⌝ }
 {
     let len = key.len();
     let mut at = from;
@@ -160,6 +169,29 @@ fn calls(key: &[u8], starts: &[u16], array: Opening, arrays: usize, from: usize)
             return at;
         }
         at += 11;
+    }
+    at
+}
+
+// The same of calls of edition 2. Inner: as for `calls`.
+fn scaled_calls(key: &[u8], starts: &[u16], array: Opening, arrays: usize, from: usize) -> usize
+    requires { ⌜ from ≤ length (now key) ⌝ }
+    requires { ⌜ length (now key) ≤ 65536 ⌝ }
+    requires { ⌜ Noted (now key) (now starts) arrays ⌝ }
+    requires { ⌜ Narrow (array .shape) ⌝ }
+    ensures run { λ r. ⌜
+        Run (now (key .entry)) Record.ScaledCall (scaledCallRulesIn (now (key .entry)) (now (starts .entry)) true array arrays) from r ⌝ }
+    ensures stops { λ r. ⌜
+        Fails (now (key .entry)) Record.ScaledCall (scaledCallRulesIn (now (key .entry)) (now (starts .entry)) true array arrays) r ⌝ }
+{
+    let len = key.len();
+    let mut at = from;
+    while at + 15 <= len {
+        let kept = scaled_call_kept(key, starts, array, arrays, at);
+        if !kept {
+            return at;
+        }
+        at += 15;
     }
     at
 }
@@ -177,17 +209,33 @@ fn cell_kept(key: &[u8], array: Opening, at: usize) -> bool
     verdict.kept()
 }
 
-// Whether a call stands at an offset and keeps its rules. Inner: there are bytes for one; otherwise as for `calls`.
+// Whether a call of edition 1 stands at an offset and keeps its rules. Inner: there are bytes for one; otherwise as for `calls`.
 fn call_kept(key: &[u8], starts: &[u16], array: Opening, arrays: usize, at: usize) -> bool
     requires { ⌜ at + 11 ≤ length (now key) ⌝ }
     requires { ⌜ Noted (now key) (now starts) arrays ⌝ }
     requires { ⌜ Narrow (array .shape) ⌝ }
-    ensures { λ r. ⌜ Tried r (now (key .entry)) Record.Call (callRulesIn (now (key .entry)) (now (starts .entry)) array arrays) at ⌝ }
+    ensures { λ r. ⌜ Tried r (now (key .entry)) Record.Call (callRulesIn (now (key .entry)) (now (starts .entry)) false array arrays) at ⌝ }
 {
     if key[at] != 5 {
         return false;
     }
     let c = read::call(key, at + 1);
-    let verdict = rules::call(key, starts, array, arrays, c, at);
+    let verdict = rules::call(key, starts, false, array, arrays, c, at);
+    verdict.kept()
+}
+
+// The same of a call of edition 2.
+fn scaled_call_kept(key: &[u8], starts: &[u16], array: Opening, arrays: usize, at: usize) -> bool
+    requires { ⌜ at + 15 ≤ length (now key) ⌝ }
+    requires { ⌜ Noted (now key) (now starts) arrays ⌝ }
+    requires { ⌜ Narrow (array .shape) ⌝ }
+    ensures { λ r. ⌜
+        Tried r (now (key .entry)) Record.ScaledCall (scaledCallRulesIn (now (key .entry)) (now (starts .entry)) true array arrays) at ⌝ }
+{
+    if key[at] != 8 {
+        return false;
+    }
+    let c = read::scaled_call(key, at + 1);
+    let verdict = rules::scaled_call(key, starts, true, array, arrays, c, at);
     verdict.kept()
 }

@@ -5,13 +5,14 @@ use rules::Opening;
 ghost use mathlib.Core.Path.{_≡_};
 ghost use mathlib.Core.List.{[]};
 ghost use Prim.Native.Nat.{_+_, _≤_, _<_};
-ghost use Rattle.records.specs.declared.Record.{Record};
-ghost use Rattle.key.specs.Inner.{seenIn, opening, passed, after, countsSeen};
+ghost use Rattle.key.specs.Inner.{seenIn, opening, passed, countsSeen};
 
 // What was seen so far.
 pub(crate) struct Seen {
     // Whether the next record is the first.
     pub first: bool,
+    // Whether the key is of edition 2, whose calls have factors.
+    pub scaled: bool,
     // The head's shape.
     pub head: Shape,
     // The array that is open; of kind 0 where none is.
@@ -32,6 +33,7 @@ pub(crate) fn nothing() -> Seen
     };
     Seen {
         first: true,
+        scaled: false,
         head: none,
         array: Opening {
             kind: 0,
@@ -43,12 +45,13 @@ pub(crate) fn nothing() -> Seen
     }
 }
 
-// What is seen behind a head that is the first record.
-pub(crate) fn headed(shape: Shape) -> Seen
-    ensures { λ r. ⌜ r ≡ after (seenIn []) (Record.Head shape) ⌝ }
+// What is seen behind a head that is the first record, of edition 2 where `scaled`.
+pub(crate) fn headed(scaled: bool, shape: Shape) -> Seen
+    ensures { λ r. ⌜ r ≡ passed (seenIn []) scaled shape 0 0 ⌝ }
 {
     let mut s = nothing();
     s.first = false;
+    s.scaled = scaled;
     s.head = shape;
     s
 }
@@ -72,7 +75,7 @@ pub(crate) fn opened(seen: Seen, kind: u8, shape: Shape) -> Seen
 // What is seen behind so many cells and calls more. Inner: the sums are at most 65,536, the most bytes that a key has.
 pub(crate) fn entered(seen: Seen, cells: usize, calls: usize) -> Seen
     requires { ⌜ (seen .cells + cells ≤ 65536) × (seen .calls + calls ≤ 65536) ⌝ }
-    ensures { λ r. ⌜ r ≡ passed seen (seen .head) (seen .cells + cells) (seen .calls + calls) ⌝ }
+    ensures { λ r. ⌜ r ≡ passed seen (seen .scaled) (seen .head) (seen .cells + cells) (seen .calls + calls) ⌝ }
 {
     let mut s = seen;
     s.first = false;

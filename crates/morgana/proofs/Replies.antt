@@ -19,10 +19,13 @@ use Rattle.compare.specs.declared.Compared.{Compared}
 use Rattle.evaluate_quadratic.specs.Answer.{evaluatedOutcome as quadraticOutcome}
 use Rattle.evaluate_quadratic.specs.declared.Evaluated.{Evaluated as Quadratic}
 use Rattle.evaluate_quadratic.proofs.Answers.{evaluated-injective as quadratic-injective}
-use Rattle.morgana.specs.Reply.{checkReply, evaluateReply, quadraticReply, keyNumber, compareReply}
+use Rattle.editions.specs.Move.{copiedOutcome}
+use Rattle.editions.specs.declared.Copied.{Copied}
+use Rattle.morgana.specs.Reply.{checkReply, evaluateReply, quadraticReply, keyNumber, compareReply, moveReply}
 use Rattle.morgana.specs.declared.CheckReply.{CheckReply}
 use Rattle.morgana.specs.declared.CompareReply.{CompareReply}
 use Rattle.morgana.specs.declared.EvaluateReply.{EvaluateReply}
+use Rattle.morgana.specs.declared.MoveReply.{MoveReply}
 use Rattle.morgana.specs.declared.QuadraticReply.{QuadraticReply}
 
 -- a refusal is told by its number and its place
@@ -82,6 +85,15 @@ quadratic-told (Quadratic.Refused f) (Quadratic.Values w) e =
     absurd (number-some (f .reason) (ap (λ (x : QuadraticReply). x .number) e))
 quadratic-told (Quadratic.Refused f) (Quadratic.Refused g) e =
     ap Quadratic.Refused (refusal-told f g (ap (λ (x : QuadraticReply). x .number) e) (ap (λ (x : QuadraticReply). x .place) e))
+
+pub move-told : (r s : Copied) → moveReply (copiedOutcome r) ≡ moveReply (copiedOutcome s) → r ≡ s
+move-told (Copied.Length m) (Copied.Length n) e = ap Copied.Length (ap (λ (x : MoveReply). x .length) e)
+move-told (Copied.Length m) (Copied.Refused g) e =
+    absurd (number-some (g .reason) (sym (ap (λ (x : MoveReply). x .number) e)))
+move-told (Copied.Refused f) (Copied.Length n) e =
+    absurd (number-some (f .reason) (ap (λ (x : MoveReply). x .number) e))
+move-told (Copied.Refused f) (Copied.Refused g) e =
+    ap Copied.Refused (refusal-told f g (ap (λ (x : MoveReply). x .number) e) (ap (λ (x : MoveReply). x .place) e))
 
 which-told : (v w : Which) → keyNumber v ≡ keyNumber w → v ≡ w
 which-told Which.First Which.First e = refl

@@ -11,6 +11,7 @@ use Rattle.comparison.specs.Compare.{Answer, same, different, refusedFor}
 use Rattle.morgana.specs.declared.CheckReply.{CheckReply}
 use Rattle.morgana.specs.declared.CompareReply.{CompareReply}
 use Rattle.morgana.specs.declared.EvaluateReply.{EvaluateReply}
+use Rattle.morgana.specs.declared.MoveReply.{MoveReply}
 use Rattle.morgana.specs.declared.QuadraticReply.{QuadraticReply}
 
 -- check's reply: the counts of an accepted key, with n and n'
@@ -61,3 +62,8 @@ compareReply same = record { number = 0; place = 0; key = 0; same = 1 }
 compareReply different = record { number = 0; place = 0; key = 0; same = 0 }
 compareReply (refusedFor which number place) =
     record { number = number; place = place; key = keyNumber which; same = 0 }
+
+-- move's reply: the copy's length
+abbrev pub moveReply : Outcome ℕ → MoveReply
+moveReply (given copy) = record { number = 0; place = 0; length = copy }
+moveReply (refused number place) = record { number = number; place = place; length = 0 }

@@ -1,6 +1,7 @@
-// The C interface (01, 'The keysheet program and the host'; 02, E2): check, evaluate, cell and compare over byte slices and slices of
-// 32-bit numbers, evaluate and compare over either field. A reply is a struct of numbers: where nothing is refused its number and place
-// are 0, and where something is, every other field is 0, but for the key that a refused comparison names.
+// The C interface (01, 'The keysheet program and the host'; 02, E2 and E9): check, evaluate, cell and compare over byte slices and slices
+// of 32-bit numbers, evaluate and compare over either field, and the move of a key into the other edition. A reply is a struct of
+// numbers: where nothing is refused its number and place are 0, and where something is, every other field is 0, but for the key that a
+// refused comparison names.
 mod reply;
 
 use key::Checked;
@@ -12,7 +13,9 @@ ghost use Rattle.evaluation.specs.Cell.{celled};
 ghost use Rattle.evaluation.specs.Evaluate.{evaluated};
 ghost use Rattle.comparison.specs.AgreementBound.{Agreement};
 ghost use Rattle.comparison.specs.Compare.{compared};
-ghost use Rattle.morgana.specs.Reply.{checkReply, evaluateReply, quadraticReply, compareReply};
+ghost use Rattle.editions.specs.Move.{moving};
+ghost use Rattle.editions.specs.OtherEdition.{Moves};
+ghost use Rattle.morgana.specs.Reply.{checkReply, evaluateReply, quadraticReply, compareReply, moveReply};
 ghost use Rattle.morgana.specs.Version.{version};
 
 // The reply to check: an accepted key's counts of arrays, cells and calls, and its row bits and column bits.
@@ -59,12 +62,20 @@ pub struct CompareReply {
     pub same: u32,
 }
 
+// The reply to move: the copy's length.
+#[repr(C)]
+pub struct MoveReply {
+    pub number: u32,
+    pub place: u64,
+    pub length: u64,
+}
+
 // The version of the library: 1,000,000 for each major, 1,000 for each minor, 1 for each patch version.
 #[no_mangle]
 pub extern "C" fn morgana_version() -> u32
     ensures { λ r. ⌜ r ≡ version ⌝ }
 {
-    2000
+    3000
 }
 
 // Whether bytes are an accepted key: its counts, or the first fault with its place.
@@ -198,4 +209,16 @@ pub extern "C" fn morgana_compare_quadratic(
     ensures agreement { λ _. ⌜ Agreement quadratic (now (first .entry)) (now (second .entry)) ⌝ }
 {
     reply::of_compared(compare_quadratic::compare(first, second, rows, columns, sheet))
+}
+
+// The key copied to the start of the buffer, into the edition that its head isn't. The answer is the copy's length, and the bytes behind
+// it stay; a refused call leaves the buffer. By `copy` all other calls answer on the copy as on the key, over either field, and moved
+// in its turn it gives the key.
+#[no_mangle]
+pub extern "C" fn morgana_move(key: &[u8], buffer: &mut [u8]) -> MoveReply
+    ensures reply { λ r. ⌜ r ≡ moveReply (moving (now (key .entry)) (now (buffer .entry)) .answer) ⌝ }
+    ensures buffer { λ _. ⌜ now (buffer .exit) ≡ moving (now (key .entry)) (now (buffer .entry)) .buffer ⌝ }
+    ensures copy { λ _. ⌜ Moves prime (now (key .entry)) (now (buffer .entry)) × Moves quadratic (now (key .entry)) (now (buffer .entry)) ⌝ }
+{
+    reply::of_copied(editions::moved(key, buffer))
 }

@@ -1,8 +1,10 @@
 // Replies to answers.
 use crate::CompareReply;
 use crate::EvaluateReply;
+use crate::MoveReply;
 use crate::QuadraticReply;
 use compare::Compared;
+use editions::Copied;
 use evaluate::Evaluated;
 use refusal::Refusal;
 use refusal::Which;
@@ -11,7 +13,8 @@ ghost use Rattle.refusal.specs.Number.{numberOf};
 ghost use Rattle.evaluate.specs.Answer.{evaluatedOutcome};
 ghost use Rattle.compare.specs.Answer.{comparedAnswer};
 ghost use Rattle.evaluate_quadratic.specs.Answer.{evaluatedOutcome as evaluatedQuadratic};
-ghost use Rattle.morgana.specs.Reply.{evaluateReply, quadraticReply, compareReply, keyNumber};
+ghost use Rattle.editions.specs.Move.{copiedOutcome};
+ghost use Rattle.morgana.specs.Reply.{evaluateReply, quadraticReply, compareReply, keyNumber, moveReply};
 
 // The reply for an answer of evaluate or cell.
 pub(crate) fn of_evaluated(answer: Evaluated) -> EvaluateReply
@@ -85,6 +88,24 @@ pub(crate) fn of_compared(answer: Compared) -> CompareReply
             place: refusal.place as u64,
             key: key_number(which),
             same: 0,
+        },
+    }
+}
+
+// The reply for an answer of the move.
+pub(crate) fn of_copied(answer: Copied) -> MoveReply
+    ensures { λ r. ⌜ r ≡ moveReply (copiedOutcome answer) ⌝ }
+{
+    match answer {
+        Copied::Length(length) => MoveReply {
+            number: 0,
+            place: 0,
+            length: length as u64,
+        },
+        Copied::Refused(refusal) => MoveReply {
+            number: number(refusal),
+            place: refusal.place as u64,
+            length: 0,
         },
     }
 }

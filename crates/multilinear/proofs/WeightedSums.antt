@@ -1,4 +1,5 @@
--- Weighted sums of matrices, whatever the weights: of a sum, of one value at one place, and of a moved matrix (004, Lemma 1).
+-- Weighted sums of matrices, whatever the weights: of a sum, of a scaled matrix, of one value at one place, and of a moved
+-- matrix (004, Lemma 1).
 use Prim.Native.Nat.{ℕ, _+_, _≤_, _<_}
 use mathlib.Core.Bool.{Bool, cond, _&&_}
 use mathlib.Core.Path.{_≡_, refl, sym, ap, ap₂, _∙_}
@@ -7,9 +8,9 @@ use lib.Dec.{eqb}
 use Rattle.algebra.specs.Arithmetic.{Arithmetic, sumBelow}
 use Rattle.algebra.specs.Field.{Ring}
 use Rattle.algebra.proofs.Rings.{nought-mul, add-mul}
-use Rattle.algebra.proofs.Sums.{sum-same, sum-valid, sum-nought, sum-add}
+use Rattle.algebra.proofs.Sums.{sum-same, sum-valid, sum-nought, sum-add, sum-mul}
 use Rattle.multilinear.specs.Extension.{weighted}
-use Rattle.multilinear.specs.Matrix.{Matrix, noughts, moved}
+use Rattle.multilinear.specs.Matrix.{Matrix, noughts, scaled, moved}
 use Rattle.multilinear.proofs.MatrixZeros.{place-row-other, place-column-other, moved-inside, moved-row-outside, moved-column-outside}
 use Rattle.multilinear.proofs.WindowSums.{sums-one, sum-scaled}
 
@@ -19,6 +20,10 @@ module _ (𝓐 : Arithmetic) (𝓡 : Ring 𝓐) where
 
   regroup : (v p q r s : Carrier) → mul (mul v (mul p q)) (mul r s) ≡ mul (mul (mul (mul v p) r) q) s
   regroup v p q r s = simp (mul-assoc, mul-comm)
+
+  factor-last : (a v p q : Carrier) → mul (mul (mul a v) p) q ≡ mul (mul (mul v p) q) a
+  factor-last a v p q =
+      ap (λ (x : Carrier). mul x q) (mul-assoc a v p) ∙ mul-assoc a (mul v p) q ∙ mul-comm a (mul (mul v p) q)
 
   module _ (N N' : ℕ) (w w' : ℕ → Carrier) where
     abbrev term : Matrix 𝓐 → ℕ → ℕ → Carrier
@@ -56,6 +61,15 @@ module _ (𝓐 : Arithmetic) (𝓡 : Ring 𝓐) where
         ∙ add-mul 𝓐 𝓡 (mul (m x y) (w x)) (mul (m' x y) (w x)) (w' y))
         ∙ sum-add 𝓐 𝓡 N' (term m x) (term m' x))
         ∙ sum-add 𝓐 𝓡 N (λ x. sumBelow 𝓐 N' (term m x)) (λ x. sumBelow 𝓐 N' (term m' x))
+
+    pub weighted-scaled : (a : Carrier) (m : Matrix 𝓐) → weighted 𝓐 (scaled 𝓐 a m) N N' w w' ≡ mul a (weighted 𝓐 m N N' w w')
+    unfolding weighted
+    weighted-scaled a m =
+        sum-same 𝓐 N _ (λ x. mul (sumBelow 𝓐 N' (term m x)) a)
+        (λ x _. sum-same 𝓐 N' _ (λ y. mul (term m x y) a) (λ y _. factor-last a (m x y) (w x) (w' y))
+        ∙ sum-mul 𝓐 𝓡 N' (term m x) a)
+        ∙ sum-mul 𝓐 𝓡 N (λ x. sumBelow 𝓐 N' (term m x)) a
+        ∙ mul-comm (sumBelow 𝓐 N (λ x. sumBelow 𝓐 N' (term m x))) a
 
     -- one value at one place
     pub weighted-place : (r c : ℕ) (v : Carrier) → r < N → c < N' →

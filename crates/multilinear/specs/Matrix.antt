@@ -1,4 +1,4 @@
--- Matrices, and a matrix moved to another place (01, 'Dense form and evaluation').
+-- Matrices, and a matrix scaled and moved to another place (01, 'Dense form and evaluation'; 02, E9).
 use Prim.Native.Nat.{ℕ, _+_, _-_}
 use mathlib.Core.Bool.{Bool, cond, _&&_}
 use lib.Dec.{leb, ltb}
@@ -11,6 +11,10 @@ Matrix 𝓐 = ℕ → ℕ → 𝓐 .Carrier
 -- zero everywhere
 abbrev pub noughts : (𝓐 : Arithmetic) → Matrix 𝓐
 noughts 𝓐 x y = 𝓐 .nought
+
+-- a matrix times an element, place by place
+abbrev pub scaled : (𝓐 : Arithmetic) → 𝓐 .Carrier → Matrix 𝓐 → Matrix 𝓐
+scaled 𝓐 a m x y = 𝓐 .mul a (m x y)
 
 -- is x one of the n numbers from s on?
 abbrev pub within : ℕ → ℕ → ℕ → Bool

@@ -106,7 +106,7 @@ impl Unreduced {
     }
 
     // The same element, each part folded once.
-    fn folded(self) -> Unreduced
+    pub fn folded(self) -> Unreduced
         ensures { λ r. ⌜ (remainders r ≡ remainders self) × FoldedFrom self r ⌝ }
     {
         Unreduced {

@@ -19,6 +19,8 @@ record-back (Record.Recursive shape) = refl
 record-back (Record.Cell cell) = refl
 record-back (Record.Call call) = refl
 record-back Record.End = refl
+record-back (Record.ScaledHead shape) = refl
+record-back (Record.ScaledCall call) = refl
 
 pub record-determined : (r s : Record) → kindOf r ≡ kindOf s → fieldsOf r ≡ fieldsOf s → r ≡ s
 record-determined r s kinds fields = sym (record-back r) ∙ ap₂ recordOf kinds fields ∙ record-back s

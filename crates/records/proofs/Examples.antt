@@ -1,4 +1,5 @@
--- The key of 01's keysheet input: its bytes are those of its records, and each record is taken where it stands.
+-- The key of 01's keysheet input: its bytes are those of its records, and each record is taken where it stands. Records of edition 2,
+-- and records that cannot be taken.
 use Prim.Native.Nat.{ℕ}
 use mathlib.Core.List.{List, [], _∷_, _++_, map}
 use mathlib.Core.Path.{_≡_, refl}
@@ -54,7 +55,16 @@ records :
 unfolding takenAt takenFrom takenAs numberOf
 records = refl
 
--- an unknown kind, and a cell that is cut off
-faults : map (takenAt (0x06 ∷ 0x07 ∷ 0x04 ∷ 0x00 ∷ [])) (1 ∷ 2 ∷ []) ≡ refused 3 1 ∷ refused 2 2 ∷ []
+-- a head and a call of edition 2, with factor 258
+scaled :
+    map (takenAt (encoded (Record.ScaledHead (record { rows = 1; columns = 2 })) ++ (0x08 ∷ 0x03 ∷ 0x00 ∷ 0x04 ∷ 0x00 ∷ 0x00 ∷ 0x00 ∷
+    0x05 ∷ 0x00 ∷ 0x00 ∷ 0x00 ∷ 0x02 ∷ 0x01 ∷ 0x00 ∷ 0x00 ∷ []))) (0 ∷ 3 ∷ []) ≡
+    takenOutcome (Taken.Record (Record.ScaledHead (record { rows = 1; columns = 2 })) 3) ∷
+    takenOutcome (Taken.Record (Record.ScaledCall (record { id = 3; down = 4; right = 5; factor = 258 })) 18) ∷ []
+unfolding takenAt takenFrom takenAs
+scaled = refl
+
+-- an unknown kind, and a cell and a call of edition 2 that are cut off
+faults : map (takenAt (0x06 ∷ 0x09 ∷ 0x04 ∷ 0x08 ∷ [])) (1 ∷ 2 ∷ 3 ∷ []) ≡ refused 3 1 ∷ refused 2 2 ∷ refused 2 3 ∷ []
 unfolding takenAt takenFrom takenAs numberOf
 faults = refl

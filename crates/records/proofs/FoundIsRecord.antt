@@ -31,7 +31,13 @@ made kind sized rest =
             | yes e ↦ of 4 e (refl, refl)
             | no d ↦ (elim (ℕ-discrete kind 5) [
               | yes e ↦ of 5 e (refl, refl)
-              | no f ↦ of 6 (end-kind kind a b c d f sized) (refl, refl)
+              | no f ↦ (elim (ℕ-discrete kind 7) [
+                | yes e ↦ of 7 e (refl, refl)
+                | no g ↦ (elim (ℕ-discrete kind 8) [
+                  | yes e ↦ of 8 e (refl, refl)
+                  | no h ↦ of 6 (end-kind kind a b c d f g h sized) (refl, refl)
+                ])
+              ])
             ])
           ])
         ])

@@ -1,5 +1,6 @@
 -- What the contracts of inner functions cite. No public promise rests on it.
 use Prim.Native.Nat.{ℕ, _+_, _^_, _<_}
+use mathlib.Core.Bool.{Bool, true, false}
 use mathlib.Core.List.{List, [], _∷_}
 use mathlib.Core.Option.{Option·getD, Option·map}
 use Rattle.records.specs.Kinds.{kindOf, fieldsOf, widthsOf}
@@ -20,3 +21,8 @@ Fit (width ∷ widths) (field ∷ fields) = (field < 256 ^ width) × Fit widths 
 -- a record's fields fit their widths
 abbrev pub Fitting : Record → Type 0
 Fitting r = Fit (widthsOf (kindOf r)) (fieldsOf r)
+
+-- the length of a call, of edition 2 where `scaled`
+abbrev pub callSize : Bool → ℕ
+callSize false = 11
+callSize true = 15

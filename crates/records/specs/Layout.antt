@@ -1,4 +1,4 @@
--- The layout of records (01, 'Records'): the kinds with the widths of their fields, and numbers as bytes.
+-- The layout of records (01, 'Records'; 02, E9): the kinds with the widths of their fields, and numbers as bytes.
 use Prim.Native.Nat.{ℕ, zero, suc, _+_, _*_, _/_, _%_}
 use mathlib.Core.Bool.{cond}
 use mathlib.Core.List.{List, [], _∷_, _++_}
@@ -9,7 +9,7 @@ use lib.ListN.{take, drop}
 -- each kind, and how many bytes each field of its body has
 abbrev pub layout : List (ℕ × List ℕ)
 layout =
-    -- head: row bits, column bits
+    -- head of edition 1: row bits, column bits
     (0x01, 1 ∷ 1 ∷ []) ∷
     -- opens a sparse array: row bits, column bits
     (0x02, 1 ∷ 1 ∷ []) ∷
@@ -17,10 +17,14 @@ layout =
     (0x03, 1 ∷ 1 ∷ []) ∷
     -- cell: row, column, A, B, C
     (0x04, 4 ∷ 4 ∷ 4 ∷ 4 ∷ 4 ∷ []) ∷
-    -- call: id, row position, column position
+    -- call of edition 1: id, row position, column position
     (0x05, 2 ∷ 4 ∷ 4 ∷ []) ∷
     -- end
-    (0x06, []) ∷ []
+    (0x06, []) ∷
+    -- head of edition 2: row bits, column bits
+    (0x07, 1 ∷ 1 ∷ []) ∷
+    -- call of edition 2: id, row position, column position, factor
+    (0x08, 2 ∷ 4 ∷ 4 ∷ 4 ∷ []) ∷ []
 
 -- the widths that a table has for a kind, or none
 abbrev pub lookup : List (ℕ × List ℕ) → ℕ → Option (List ℕ)

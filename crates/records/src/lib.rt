@@ -6,7 +6,7 @@ use refusal::Reason;
 use refusal::Refusal;
 ghost use mathlib.Core.Path.{_≡_};
 ghost use Rattle.refusal.specs.Outcome.{refuse};
-ghost use Rattle.records.specs.Kinds.{kindOf};
+ghost use Rattle.records.specs.Kinds.{kindOf, withoutFactor};
 ghost use Rattle.records.specs.Inner.{sizeOf};
 ghost use Rattle.records.specs.Take.{takenOutcome, takenAt};
 ghost use Rattle.records.specs.Put.{writtenOutcome, putAt};
@@ -35,9 +35,17 @@ pub struct Call {
     pub right: u32,
 }
 
-// A record of each of the six kinds. Its fields may hold any numbers of their types.
+// The same with a factor, by which the called matrices are multiplied.
+pub struct ScaledCall {
+    pub id: u16,
+    pub down: u32,
+    pub right: u32,
+    pub factor: u32,
+}
+
+// A record of each of the eight kinds. Its fields may hold any numbers of their types.
 pub enum Record {
-    // Begins a key: the shape of its last array.
+    // Begins a key of edition 1: the shape of its last array.
     Head(Shape),
     // Opens a sparse array of this shape.
     Sparse(Shape),
@@ -45,10 +53,14 @@ pub enum Record {
     Recursive(Shape),
     // A cell of the sparse array that is open.
     Cell(Cell),
-    // A call of the recursive array that is open.
+    // A call of the recursive array that is open, in a key of edition 1.
     Call(Call),
     // Ends a key.
     End,
+    // Begins a key of edition 2: the shape of its last array.
+    ScaledHead(Shape),
+    // A call of the recursive array that is open, in a key of edition 2.
+    ScaledCall(ScaledCall),
 }
 
 // What taking a record answers.
@@ -65,6 +77,19 @@ pub enum Written {
     Next(usize),
     // The record does not fit, and nothing is written.
     Refused(Refusal),
+}
+
+impl ScaledCall {
+    // The call without its factor.
+    pub fn without_factor(self) -> Call
+        ensures { λ r. ⌜ r ≡ withoutFactor self ⌝ }
+    {
+        Call {
+            id: self.id,
+            down: self.down,
+            right: self.right,
+        }
+    }
 }
 
 // The record at an offset, judged by its kind and its length alone.
@@ -143,6 +168,8 @@ fn size_of(kind: u8) -> usize
         4 => 21,
         5 => 11,
         6 => 1,
+        7 => 3,
+        8 => 15,
         _ => 0,
     }
 }
@@ -158,5 +185,7 @@ fn kind_of(item: Record) -> u8
         Record::Cell(_) => 4,
         Record::Call(_) => 5,
         Record::End => 6,
+        Record::ScaledHead(_) => 7,
+        Record::ScaledCall(_) => 8,
     }
 }

@@ -2,14 +2,15 @@
 use crate::Call;
 use crate::Cell;
 use crate::Record;
+use crate::ScaledCall;
 use crate::Shape;
 ghost use mathlib.Core.Path.{_≡_};
 ghost use mathlib.Core.List.{[], _∷_};
 ghost use Prim.Native.Nat.{_+_, _≤_, _<_};
 ghost use lib.ListN.{length, getD, take, drop};
 ghost use Rattle.records.specs.Layout.{numberIn, fieldsIn, total};
-ghost use Rattle.records.specs.Kinds.{kindOf, fieldsOf, widthsOf, shapeFields, cellFields, callFields};
-ghost use Rattle.records.specs.Inner.{sizeOf};
+ghost use Rattle.records.specs.Kinds.{kindOf, fieldsOf, widthsOf, shapeFields, cellFields, callFields, scaledCallFields};
+ghost use Rattle.records.specs.Inner.{sizeOf, callSize};
 
 // The record of a known kind whose body begins at an offset and is whole.
 pub(crate) fn record(bytes: &[u8], at: usize, kind: u8) -> Record
@@ -24,6 +25,8 @@ pub(crate) fn record(bytes: &[u8], at: usize, kind: u8) -> Record
         3 => Record::Recursive(shape(bytes, at)),
         4 => Record::Cell(cell(bytes, at)),
         5 => Record::Call(call(bytes, at)),
+        7 => Record::ScaledHead(shape(bytes, at)),
+        8 => Record::ScaledCall(scaled_call(bytes, at)),
         _ => Record::End,
     }
 }
@@ -63,6 +66,26 @@ pub fn call(bytes: &[u8], at: usize) -> Call
         down: four_bytes(bytes, at + 2),
         right: four_bytes(bytes, at + 6),
     }
+}
+
+// The call with a factor in fourteen bytes. Inner: they are there.
+pub fn scaled_call(bytes: &[u8], at: usize) -> ScaledCall
+    requires { ⌜ at + 14 ≤ length (now bytes) ⌝ }
+    ensures { λ r. ⌜ scaledCallFields r ≡ fieldsIn (2 ∷ 4 ∷ 4 ∷ 4 ∷ []) (drop at (now (bytes .entry))) ⌝ }
+{
+    ScaledCall {
+        id: two_bytes(bytes, at),
+        down: four_bytes(bytes, at + 2),
+        right: four_bytes(bytes, at + 6),
+        factor: four_bytes(bytes, at + 10),
+    }
+}
+
+// The length of a call, of edition 2 where `scaled`.
+pub fn call_size(scaled: bool) -> usize
+    ensures { λ r. ⌜ r ≡ callSize scaled ⌝ }
+{
+    if scaled { 15 } else { 11 }
 }
 
 // The number in four bytes from a place on. Inner: they are there.

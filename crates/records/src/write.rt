@@ -2,6 +2,7 @@
 use crate::Call;
 use crate::Cell;
 use crate::Record;
+use crate::ScaledCall;
 use crate::Shape;
 ghost use mathlib.Core.Path.{_≡_};
 ghost use mathlib.Core.List.{[], _∷_};
@@ -25,6 +26,8 @@ pub(crate) fn record(part: &mut [u8], item: Record)
         Record::Cell(c) => cell(part, c),
         Record::Call(c) => call(part, c),
         Record::End => kind(part, 6),
+        Record::ScaledHead(s) => shape(part, 7, s),
+        Record::ScaledCall(c) => scaled_call(part, c),
     }
 }
 
@@ -60,6 +63,18 @@ fn call(part: &mut [u8], c: Call)
     two_bytes(&mut part[..], 1, c.id);
     four_bytes(&mut part[..], 3, c.down);
     four_bytes(&mut part[..], 7, c.right);
+}
+
+// A call with a factor, with its kind.
+fn scaled_call(part: &mut [u8], c: ScaledCall)
+    requires { ⌜ 15 ≤ length (now part) ⌝ }
+    ensures { λ _. ⌜ now (part .exit) ≡ sets (now (part .entry)) 0 (encoded (Record.ScaledCall c)) ⌝ }
+{
+    kind(&mut part[..], 8);
+    two_bytes(&mut part[..], 1, c.id);
+    four_bytes(&mut part[..], 3, c.down);
+    four_bytes(&mut part[..], 7, c.right);
+    four_bytes(&mut part[..], 11, c.factor);
 }
 
 // A kind alone.

@@ -1,8 +1,8 @@
--- The numbers of the refusals (01, 'Who can cause a refusal'), in 01's order.
+-- The numbers of the refusals (01, 'Who can cause a refusal'; 02's new numbers), in the order of 01 and then of 02.
 use Prim.Native.Nat.{ℕ}
 use Rattle.refusal.specs.declared.Reason.{Reason}
 
--- the number of each reason, under 01's own words for it
+-- the number of each reason, under the document's own words for it
 unfoldable pub numberOf : Reason → ℕ
 -- key over 65,536 bytes
 numberOf Reason.KeyTooLong = 1
@@ -10,7 +10,7 @@ numberOf Reason.KeyTooLong = 1
 numberOf Reason.RecordIncomplete = 2
 -- unknown kind
 numberOf Reason.KindUnknown = 3
--- record not allowed at this point, or end before any array
+-- record not allowed at this point, or end before any array (02, E9: or a call of the other edition)
 numberOf Reason.RecordMisplaced = 4
 -- head bits over 30, or array bits over the head's
 numberOf Reason.BitsTooMany = 5
@@ -18,7 +18,7 @@ numberOf Reason.BitsTooMany = 5
 numberOf Reason.ArraysTooMany = 6
 -- cell address outside its array
 numberOf Reason.CellOutside = 7
--- cell value p or more
+-- cell value p or more (02, E9: or a factor)
 numberOf Reason.ValueTooGreat = 8
 -- called id not earlier
 numberOf Reason.CalledNotEarlier = 9
@@ -40,7 +40,7 @@ numberOf Reason.CoordinateTooGreat = 23
 numberOf Reason.AddressOutside = 24
 -- sheet below 3·arrays
 numberOf Reason.SheetTooShort = 31
--- record doesn't fit behind the offset
+-- record doesn't fit behind the offset (02, E9: or a moved key the buffer)
 numberOf Reason.BufferTooShort = 32
 -- offset greater than the slice's length
 numberOf Reason.OffsetTooGreat = 33
@@ -52,3 +52,7 @@ numberOf Reason.ShapesDiffer = 35
 numberOf Reason.InputTooShort = 41
 -- input over 65,536 bytes
 numberOf Reason.InputTooLong = 42
+-- a factor other than 1 on the way back
+numberOf Reason.FactorNotOne = 55
+-- moved key over 65,536 bytes
+numberOf Reason.MovedTooLong = 56

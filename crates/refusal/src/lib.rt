@@ -1,8 +1,8 @@
-// Why a call is refused, and where (01, 'Who can cause a refusal').
+// Why a call is refused, and where (01, 'Who can cause a refusal'; 02's new numbers).
 ghost use mathlib.Core.Path.{_≡_};
 ghost use Rattle.refusal.specs.Number.{numberOf};
 
-// The condition under which a call is refused: one for each number of 01's list, in its order.
+// The condition under which a call is refused: one for each number of 01's list, in its order, and then those of 02.
 pub enum Reason {
     // Faults of the key.
     KeyTooLong,
@@ -32,9 +32,12 @@ pub enum Reason {
     // Faults of keysheet's input.
     InputTooShort,
     InputTooLong,
+    // Faults of a key to be moved into the other edition.
+    FactorNotOne,
+    MovedTooLong,
 }
 
-// A refusal: its reason, and the place that 01 gives for that reason.
+// A refusal: its reason, and the place that 01 or 02 gives for that reason.
 pub struct Refusal {
     pub reason: Reason,
     pub place: usize,
@@ -49,7 +52,7 @@ pub enum Which {
 }
 
 impl Reason {
-    // The number that 01 gives the reason.
+    // The number that 01 or 02 gives the reason.
     pub fn number(self) -> u32
         ensures { λ r. ⌜ r ≡ numberOf self ⌝ }
     {
@@ -78,6 +81,8 @@ impl Reason {
             Reason::ShapesDiffer => 35,
             Reason::InputTooShort => 41,
             Reason::InputTooLong => 42,
+            Reason::FactorNotOne => 55,
+            Reason::MovedTooLong => 56,
         }
     }
 }

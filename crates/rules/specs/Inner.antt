@@ -7,9 +7,10 @@ use lib.Dec.{ltb}
 use lib.ListN.{length, getD}
 use Rattle.refusal.specs.declared.Reason.{Reason}
 use Rattle.records.specs.declared.Call.{Call}
+use Rattle.records.specs.declared.ScaledCall.{ScaledCall}
 use Rattle.records.specs.declared.Shape.{Shape}
 use Rattle.arrays.specs.WellFormed.{Each}
-use Rattle.rules.specs.Rules.{Rule, callRules}
+use Rattle.rules.specs.Rules.{Rule, calledRules, callRules, scaledCallRules}
 use Rattle.rules.specs.declared.Opening.{Opening}
 use Rattle.rules.specs.declared.Verdict.{Verdict}
 
@@ -53,5 +54,13 @@ abbrev pub Narrow : Shape → Type 0
 Narrow shape = (shape .rows ≤ 30) × (shape .columns ≤ 30)
 
 -- the rules of a call in the array that is open, the last of so many
-abbrev pub callRulesIn : List ℕ → List ℕ → Opening → ℕ → Call → List Rule
-callRulesIn key starts array arrays call = callRules array (arrays - 1) (calledShape key starts arrays (call .id)) call
+abbrev pub calledRulesIn : List ℕ → List ℕ → Shape → ℕ → Call → List Rule
+calledRulesIn key starts shape arrays call = calledRules shape (arrays - 1) (calledShape key starts arrays (call .id)) call
+
+abbrev pub callRulesIn : List ℕ → List ℕ → Bool → Opening → ℕ → Call → List Rule
+callRulesIn key starts scaled array arrays call =
+    callRules scaled array (arrays - 1) (calledShape key starts arrays (call .id)) call
+
+abbrev pub scaledCallRulesIn : List ℕ → List ℕ → Bool → Opening → ℕ → ScaledCall → List Rule
+scaledCallRulesIn key starts scaled array arrays call =
+    scaledCallRules scaled array (arrays - 1) (calledShape key starts arrays (call .id)) call

@@ -1,13 +1,16 @@
--- The rules that a record must keep, in the order of 01's 'Order', each with the reason for which it refuses. n and n' are
--- the head's bits, k and k' those of the array that is open, K and K' those of a called one.
+-- The rules that a record must keep, in the order of 01's 'Order' (02, E9 for those of edition 2), each with the reason for which it
+-- refuses. `scaled` says whether the key is of edition 2. n and n' are the head's bits, k and k' those of the array that is
+-- open, K and K' those of a called one.
 use Prim.Native.Nat.{ℕ, _-_, _^_}
 use mathlib.Core.Bool.{Bool, not}
 use mathlib.Core.List.{List, [], _∷_}
 use lib.Dec.{ltb, leb, eqb}
 use Rattle.refusal.specs.declared.Reason.{Reason}
 use Rattle.field.specs.Fp.{p}
+use Rattle.records.specs.Kinds.{withoutFactor}
 use Rattle.records.specs.declared.Call.{Call}
 use Rattle.records.specs.declared.Cell.{Cell}
+use Rattle.records.specs.declared.ScaledCall.{ScaledCall}
 use Rattle.records.specs.declared.Shape.{Shape}
 use Rattle.rules.specs.declared.Opening.{Opening}
 
@@ -23,6 +26,13 @@ noHead first = first
 -- 4: a cell or a call where the array that is open is not of its kind
 abbrev pub notOpen : ℕ → ℕ → Bool
 notOpen wanted kind = not (eqb kind wanted)
+
+-- 4: a call of one edition in a key of the other
+abbrev pub editionTwo : Bool → Bool
+editionTwo scaled = scaled
+
+abbrev pub editionOne : Bool → Bool
+editionOne scaled = not scaled
 
 -- 4: an end before any array
 abbrev pub noArray : ℕ → Bool
@@ -40,7 +50,7 @@ bitsOver most bits = ltb most bits
 abbrev pub outside : ℕ → ℕ → Bool
 outside k address = leb (2 ^ k) address
 
--- 8: a value of p or more
+-- 8: a value or a factor of p or more
 abbrev pub pOrMore : ℕ → Bool
 pOrMore value = leb p value
 
@@ -101,16 +111,30 @@ cellRules array cell =
     rule Reason.ValueTooGreat (pOrMore (cell .c)) ∷
     []
 
--- a call follows a recursive opening, of the array numbered `own`; `called` is the shape of the array that it names
-abbrev pub callRules : Opening → ℕ → Shape → Call → List Rule
-callRules array own called call =
-    rule Reason.RecordMisplaced (notOpen 0x03 (array .kind)) ∷
+-- a call of either edition in the array numbered `own`, which has this shape; `called` is the shape of the array that it names
+abbrev pub calledRules : Shape → ℕ → Shape → Call → List Rule
+calledRules shape own called call =
     rule Reason.CalledNotEarlier (notEarlier own (call .id)) ∷
-    rule Reason.CalledTooLarge (larger (array .shape .rows) (called .rows)) ∷
-    rule Reason.CalledTooLarge (larger (array .shape .columns) (called .columns)) ∷
-    rule Reason.PositionTooGreat (beyond (array .shape .rows) (called .rows) (call .down)) ∷
-    rule Reason.PositionTooGreat (beyond (array .shape .columns) (called .columns) (call .right)) ∷
+    rule Reason.CalledTooLarge (larger (shape .rows) (called .rows)) ∷
+    rule Reason.CalledTooLarge (larger (shape .columns) (called .columns)) ∷
+    rule Reason.PositionTooGreat (beyond (shape .rows) (called .rows) (call .down)) ∷
+    rule Reason.PositionTooGreat (beyond (shape .columns) (called .columns) (call .right)) ∷
     []
+
+-- a call of edition 1 follows a recursive opening in a key of edition 1
+abbrev pub callRules : Bool → Opening → ℕ → Shape → Call → List Rule
+callRules scaled array own called call =
+    rule Reason.RecordMisplaced (notOpen 0x03 (array .kind)) ∷
+    rule Reason.RecordMisplaced (editionTwo scaled) ∷
+    calledRules (array .shape) own called call
+
+-- a call of edition 2 follows a recursive opening in a key of edition 2, and its factor is a number of the field
+abbrev pub scaledCallRules : Bool → Opening → ℕ → Shape → ScaledCall → List Rule
+scaledCallRules scaled array own called call =
+    rule Reason.RecordMisplaced (notOpen 0x03 (array .kind)) ∷
+    rule Reason.RecordMisplaced (editionOne scaled) ∷
+    rule Reason.ValueTooGreat (pOrMore (call .factor)) ∷
+    calledRules (array .shape) own called (withoutFactor call)
 
 -- an end follows an array, which has the head's shape; `arrays` were opened before it
 abbrev pub endRules : Shape → ℕ → Opening → List Rule

@@ -1,8 +1,9 @@
-// The rules that a record of a key must keep (01, 'An accepted key'). For each kind of record a function tries them in 01's order, as the
-// list for that kind in specs/Rules.antt has them. All functions here are inner; what one requires is said at it.
+// The rules that a record of a key must keep (01, 'An accepted key'; 02, E9). For each kind of record a function tries them in 01's
+// order, as the list for that kind in specs/Rules.antt has them. All functions here are inner; what one requires is said at it.
 use field::Fp;
 use records::Call;
 use records::Cell;
+use records::ScaledCall;
 use records::Shape;
 use refusal::Reason;
 use refusal::Refusal;
@@ -10,7 +11,7 @@ ghost use mathlib.Core.Path.{_≡_};
 ghost use Prim.Native.Nat.{_+_, _≤_, _<_};
 ghost use lib.ListN.{length, getD};
 ghost use Rattle.rules.specs.Rules.{headRules, openingRules, cellRules, endRules, afterRules, beyond, outside};
-ghost use Rattle.rules.specs.Inner.{unlessBroken, isKept, heldTo, Noted, Narrow, shapeRead, callRulesIn};
+ghost use Rattle.rules.specs.Inner.{unlessBroken, isKept, heldTo, Noted, Narrow, shapeRead, calledRulesIn, callRulesIn, scaledCallRulesIn};
 
 // The opening of an array: its kind, 2 sparse or 3 recursive, and the array's shape.
 pub struct Opening {
@@ -61,11 +62,12 @@ pub fn cell(array: Opening, c: Cell, at: usize) -> Verdict
         .unless(Fp::P <= c.c, Reason::ValueTooGreat, at)
 }
 
-// The rules of a call in the array that is open, the last of `arrays`. The called array's shape is read where the call names an
-// earlier one. Inner: the offsets of the arrays are noted, and the array that is open has at most 30 bits a side.
+// The rules of a call of edition 1 in the array that is open, the last of `arrays`, of a key that is of edition 2 where `scaled`. Inner:
+// the offsets of the arrays are noted, and the array that is open has at most 30 bits a side.
 pub fn call(
     key: &[u8],
     starts: &[u16],
+    scaled: bool,
     array: Opening,
     arrays: usize,
     c: Call,
@@ -73,27 +75,75 @@ pub fn call(
 ) -> Verdict
     requires { ⌜ Noted (now key) (now starts) arrays ⌝ }
     requires { ⌜ Narrow (array .shape) ⌝ }
-    ensures { λ r. ⌜ r ≡ heldTo Verdict.Kept at (callRulesIn (now (key .entry)) (now (starts .entry)) array arrays c) ⌝ }
+    ensures { λ r. ⌜ r ≡ heldTo Verdict.Kept at (callRulesIn (now (key .entry)) (now (starts .entry)) scaled array arrays c) ⌝ }
+{
+    let placed = Verdict::Kept
+        .unless(array.kind != 3, Reason::RecordMisplaced, at)
+        .unless(scaled, Reason::RecordMisplaced, at);
+    called(placed, key, starts, array.shape, arrays, c, at)
+}
+
+// The rules of a call of edition 2. Inner: as for `call`.
+pub fn scaled_call(
+    key: &[u8],
+    starts: &[u16],
+    scaled: bool,
+    array: Opening,
+    arrays: usize,
+    c: ScaledCall,
+    at: usize,
+) -> Verdict
+    requires { ⌜ Noted (now key) (now starts) arrays ⌝ }
+    requires { ⌜ Narrow (array .shape) ⌝ }
+    ensures { λ r. ⌜
+        r ≡ heldTo Verdict.Kept at (scaledCallRulesIn (now (key .entry)) (now (starts .entry)) scaled array arrays c) ⌝ }
+{
+    let placed = Verdict::Kept
+        .unless(array.kind != 3, Reason::RecordMisplaced, at)
+        .unless(!scaled, Reason::RecordMisplaced, at)
+        .unless(Fp::P <= c.factor, Reason::ValueTooGreat, at);
+    called(
+        placed,
+        key,
+        starts,
+        array.shape,
+        arrays,
+        c.without_factor(),
+        at,
+    )
+}
+
+// A verdict on a call after the rules of what it calls from an array of this shape, the last of `arrays`. The called array's shape is
+// read where the call names an earlier one. Inner: as for `call`.
+fn called(
+    verdict: Verdict,
+    key: &[u8],
+    starts: &[u16],
+    shape: Shape,
+    arrays: usize,
+    c: Call,
+    at: usize,
+) -> Verdict
+    requires { ⌜ Noted (now key) (now starts) arrays ⌝ }
+    requires { ⌜ Narrow shape ⌝ }
+    ensures { λ r. ⌜ r ≡ heldTo verdict at (calledRulesIn (now (key .entry)) (now (starts .entry)) shape arrays c) ⌝ }
 {
     let id = c.id as usize;
-    let shape = array.shape;
-    let named = Verdict::Kept
-        .unless(array.kind != 3, Reason::RecordMisplaced, at)
-        .unless(arrays <= id + 1, Reason::CalledNotEarlier, at);
+    let named = verdict.unless(arrays <= id + 1, Reason::CalledNotEarlier, at);
     if !named.kept() {
         return named;
     }
-    let called = shape_at(key, starts, id);
+    let of = shape_at(key, starts, id);
     Verdict::Kept
-        .unless(shape.rows < called.rows, Reason::CalledTooLarge, at)
-        .unless(shape.columns < called.columns, Reason::CalledTooLarge, at)
+        .unless(shape.rows < of.rows, Reason::CalledTooLarge, at)
+        .unless(shape.columns < of.columns, Reason::CalledTooLarge, at)
         .unless(
-            beyond(shape.rows, called.rows, c.down),
+            beyond(shape.rows, of.rows, c.down),
             Reason::PositionTooGreat,
             at,
         )
         .unless(
-            beyond(shape.columns, called.columns, c.right),
+            beyond(shape.columns, of.columns, c.right),
             Reason::PositionTooGreat,
             at,
         )

@@ -3,7 +3,7 @@
 use crate::generator::random::Random;
 use crate::independent::key::{read, Body};
 use crate::independent::record::{bytes, Record};
-use crate::records::{calls, cells, full, many, narrow, small};
+use crate::records::{calls, cells, full, many, narrow, scaled, small};
 use crate::towers;
 
 /// The prime p.
@@ -42,13 +42,14 @@ pub fn inputs() -> Vec<Sample> {
     of_length(65_536 - 2 - 4 * 60)
 }
 
-/// All cells, all calls, both in equal parts of so many bytes, the request's small key, a tower of
-/// forty levels, arrays of four bits a side, and a thousand arrays of three entries.
+/// All cells, all calls, all calls with factors, both in equal parts of so many bytes, the request's small
+/// key, a tower of forty levels, arrays of four bits a side, and a thousand arrays of three entries.
 fn of_length(bytes: usize) -> Vec<Sample> {
     let mut random = Random::of_case(1, 0);
     vec![
         sample(&mut random, "all cells", full(bytes, bytes / 21 - 1, 0)),
         sample(&mut random, "all calls", full(bytes, 4, bytes / 11 - 12)),
+        sample(&mut random, "scaled calls", scaled(bytes)),
         sample(
             &mut random,
             "mixed",
@@ -121,7 +122,7 @@ fn factors(key: &crate::independent::key::Key) -> usize {
             Body::Sparse(cells) => cells.len() * own as usize,
             Body::Recursive(calls) => calls
                 .iter()
-                .map(|call| {
+                .map(|(call, _)| {
                     let called = &key.arrays[usize::from(call.id)];
                     (own - called.row_bits - called.column_bits) as usize
                 })

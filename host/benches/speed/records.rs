@@ -33,6 +33,22 @@ pub fn full(length: usize, cells: usize, calls: usize) -> Vec<Record> {
     records
 }
 
+/// A key of edition 2 that fills so many bytes with calls of a small array of one cell, each with a random factor, behind
+/// empty arrays.
+pub fn scaled(length: usize) -> Vec<Record> {
+    let calls = (length - 46) / 15;
+    let mut random = Random::of_case(9, 0);
+    let mut records = vec![Record::ScaledHead(BITS, BITS)];
+    records.push(Record::Sparse(CALLED_BITS, CALLED_BITS));
+    records.push(cell(&mut random, CALLED_BITS));
+    records.push(Record::Recursive(BITS, BITS));
+    records.extend((0..calls).map(|_| scaled_call(&mut random)));
+    records.push(Record::End);
+    let empty = (length - bytes(&records).len()) / 3;
+    records.splice(3..3, vec![Record::Sparse(0, 0); empty]);
+    records
+}
+
 /// A key of one array with so many cells.
 pub fn cells(count: usize) -> Vec<Record> {
     let mut random = Random::of_case(6, count as u64);
@@ -129,13 +145,24 @@ fn call(random: &mut Random) -> Record {
     call_of(random, 0, BITS - CALLED_BITS)
 }
 
+/// A call of array 0 at a random position, with a random factor.
+fn scaled_call(random: &mut Random) -> Record {
+    let place = place_of(random, 0, BITS - CALLED_BITS);
+    Record::ScaledCall(place, random.number() % P)
+}
+
 /// A call of an array at a random position of so many row and column bits.
 pub fn call_of(random: &mut Random, id: usize, bits: u8) -> Record {
-    Record::Call(Call {
+    Record::Call(place_of(random, id, bits))
+}
+
+/// The fields of such a call.
+fn place_of(random: &mut Random, id: usize, bits: u8) -> Call {
+    Call {
         id: id as u16,
         row: number(random, bits),
         column: number(random, bits),
-    })
+    }
 }
 
 /// A random number of so many bits.

@@ -84,6 +84,11 @@ pub fn compare_quadratic(
     ))
 }
 
+/// The move's answer through the safe call.
+pub fn moved(key: &[u8], buffer: &mut [u8]) -> Result<usize, Refusal> {
+    morgana::moved(key, buffer).map_err(refusal)
+}
+
 /// An answer of compare in the terms of the independent implementation.
 fn compared(answer: Result<Compared, morgana::CompareRefusal>) -> Result<bool, CompareRefusal> {
     match answer {

@@ -1,6 +1,6 @@
 //! The replies as C sees them: every field, all others 0 where the answer is a refusal.
 
-use morgana::raw::{self, CheckReply, CompareReply, EvaluateReply, QuadraticReply};
+use morgana::raw::{self, CheckReply, CompareReply, EvaluateReply, MoveReply, QuadraticReply};
 
 use crate::independent::field::Quadratic;
 use crate::independent::{CompareRefusal, Counts, Refusal};
@@ -82,6 +82,22 @@ pub fn compare_reply(answer: Result<bool, CompareRefusal>) -> CompareReply {
             place: refusal.place,
             key,
             same: 0,
+        },
+    }
+}
+
+/// The reply that the move gives for an answer.
+pub fn move_reply(answer: Result<usize, Refusal>) -> MoveReply {
+    match answer {
+        Ok(length) => MoveReply {
+            number: 0,
+            place: 0,
+            length: length as u64,
+        },
+        Err(Refusal { number, place }) => MoveReply {
+            number,
+            place,
+            length: 0,
         },
     }
 }
@@ -194,4 +210,10 @@ pub fn raw_compare_quadratic(
             sheet.len(),
         )
     }
+}
+
+/// The move's reply as C sees it.
+pub fn raw_move(key: &[u8], buffer: &mut [u8]) -> MoveReply {
+    // SAFETY: each pointer and length are those of a slice, and the buffer overlaps no other.
+    unsafe { raw::morgana_move(key.as_ptr(), key.len(), buffer.as_mut_ptr(), buffer.len()) }
 }

@@ -53,6 +53,14 @@ impl Case {
         sheet.restore();
     }
 
+    /// The same of a lent buffer of bytes.
+    pub fn hold_buffer(&mut self, what: &str, buffer: &mut Lent<u8>, wanted: &[u8]) {
+        self.hold(what, buffer.slice(), wanted);
+        let around = buffer.is_unchanged_around();
+        self.hold("bytes around the buffer", around, true);
+        buffer.restore();
+    }
+
     /// Notes a fault where keys or points, lent to be read, are others than before.
     pub fn hold_unchanged(&mut self, keys: &[&Lent<u8>], points: &[&Lent<u32>]) {
         let keys = keys.iter().all(|lent| lent.is_unchanged());

@@ -50,7 +50,7 @@ fn records_taken_and_allowed() {
     refuses(&in_sparse[..16], 2, 6);
     refuses(&bytes(&[Head(0, 0), Sparse(0, 0)]), 2, 6);
     refuses(&[2, 0], 2, 0);
-    for kind in (0..=255).filter(|kind| !(1..=6).contains(kind)) {
+    for kind in (0..=255).filter(|kind| !(1..=8).contains(kind)) {
         refuses(&[kind], 3, 0);
         refuses(&[1, 0, 0, kind], 3, 3);
         refuses(&[1, 0, 0, 2, 0, 0, kind, 0, 0], 3, 6);

@@ -7,7 +7,7 @@ use crate::independent::record::Record::Sparse;
 use crate::independent::{CompareRefusal, Refusal};
 use crate::written::{cell, key, sample};
 use morgana::raw::{morgana_cell, morgana_check, morgana_compare, morgana_evaluate};
-use morgana::raw::{morgana_compare_quadratic, morgana_evaluate_quadratic};
+use morgana::raw::{morgana_compare_quadratic, morgana_evaluate_quadratic, morgana_move};
 
 /// The key with one array of one place.
 fn single() -> Vec<u8> {
@@ -172,4 +172,27 @@ fn nulls_over_p_squared() {
         assert_eq!(reply, archive::compare_reply(Ok(true)));
     }
     assert_eq!(sheet, [4, 0, 5, 0, 6, 0, 7]);
+}
+
+/// Slices of the move as null.
+#[test]
+fn nulls_of_the_move() {
+    let key = single();
+    let (bytes, length) = (key.as_ptr(), key.len());
+    let mut buffer = [7; 30];
+    let no_room = Refusal {
+        number: 32,
+        place: 28,
+    };
+    // SAFETY: a null pointer goes with the length 0, all else is of slices.
+    unsafe {
+        let out = buffer.as_mut_ptr();
+        let reply = morgana_move(null(), 0, out, 30);
+        assert_eq!(reply, archive::move_reply(Err(MISSING)));
+        let reply = morgana_move(null(), 0, null_mut(), 0);
+        assert_eq!(reply, archive::move_reply(Err(MISSING)));
+        let reply = morgana_move(bytes, length, null_mut(), 0);
+        assert_eq!(reply, archive::move_reply(Err(no_room)));
+    }
+    assert_eq!(buffer, [7; 30]);
 }

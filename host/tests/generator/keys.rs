@@ -1,5 +1,6 @@
-//! Whole keys of all shapes, as lists of records.
+//! Whole keys of all shapes and of both editions, as lists of records.
 
+use super::editions::{any_factor, edition, written_in};
 use super::random::Random;
 use super::within::{cell, of_shapes, position, within, Bounds};
 use crate::independent::key::LONGEST;
@@ -110,7 +111,8 @@ pub fn tower(random: &mut Random) -> Vec<Record> {
     }
     records.insert(0, Record::Head(rows, columns));
     records.push(Record::End);
-    records
+    let edition = edition(random);
+    written_in(random, edition, &records, any_factor)
 }
 
 /// Adds up to two bits to the rows or the columns, below 30; answers what was added to each.

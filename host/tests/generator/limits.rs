@@ -3,15 +3,15 @@
 
 use super::random::Random;
 use crate::independent::field::P;
-use crate::independent::record::Record;
+use crate::independent::record::{Call, Record};
 
 /// Puts fields of one record at, over or just below their limits.
 pub fn push_a_limit(random: &mut Random, records: &mut [Record]) {
     let is_wanted: fn(&Record) -> bool = match random.below(8) {
-        0 => |record| matches!(record, Record::Head(..)),
+        0 => |record| matches!(record, Record::Head(..) | Record::ScaledHead(..)),
         1 | 2 => |record| matches!(record, Record::Sparse(..) | Record::Recursive(..)),
         3 | 4 => |record| matches!(record, Record::Cell(_)),
-        _ => |record| matches!(record, Record::Call(_)),
+        _ => |record| matches!(record, Record::Call(_) | Record::ScaledCall(..)),
     };
     let at: Vec<usize> = (0..records.len())
         .filter(|&at| is_wanted(&records[at]))
@@ -30,6 +30,10 @@ pub fn push_a_limit(random: &mut Random, records: &mut [Record]) {
             let [rows, columns] = pushed_bits(random, [rows, columns], [30, 30]);
             Record::Head(rows, columns)
         }
+        Record::ScaledHead(rows, columns) => {
+            let [rows, columns] = pushed_bits(random, [rows, columns], [30, 30]);
+            Record::ScaledHead(rows, columns)
+        }
         Record::Sparse(rows, columns) => {
             let [rows, columns] = pushed_bits(random, [rows, columns], head_bits(records));
             Record::Sparse(rows, columns)
@@ -45,7 +49,7 @@ pub fn push_a_limit(random: &mut Random, records: &mut [Record]) {
 /// The bits of the head, or none if there is no head.
 fn head_bits(records: &[Record]) -> [u8; 2] {
     match records[0] {
-        Record::Head(rows, columns) => [rows, columns],
+        Record::Head(rows, columns) | Record::ScaledHead(rows, columns) => [rows, columns],
         _ => [0, 0],
     }
 }
@@ -99,27 +103,35 @@ fn pushed_body(random: &mut Random, record: Record, shapes: &[[u8; 2]]) -> Recor
             }
             Record::Cell(cell)
         }
-        Record::Call(mut call) => {
-            let own = shapes.len() - 1;
-            if random.chance(2) {
-                call.id = pushed_id(random, own);
-            }
-            if let Some(&[rows, columns]) = shapes.get(usize::from(call.id)) {
-                let mut fields = [&mut call.row, &mut call.column];
-                let room = [
-                    row_bits.saturating_sub(rows),
-                    column_bits.saturating_sub(columns),
-                ];
-                for (field, bits) in fields.iter_mut().zip(room) {
-                    if random.chance(2) {
-                        **field = near(random, 1u64 << bits.min(32));
-                    }
-                }
-            }
-            Record::Call(call)
-        }
+        Record::Call(call) => Record::Call(pushed_call(random, call, shapes)),
+        Record::ScaledCall(call, factor) => match random.below(6) {
+            0 => Record::ScaledCall(call, near(random, P.into())),
+            1 => Record::ScaledCall(pushed_call(random, call, shapes), near(random, P.into())),
+            _ => Record::ScaledCall(pushed_call(random, call, shapes), factor),
+        },
         other => other,
     }
+}
+
+/// A call of the last of these arrays with an id or positions near their limits.
+fn pushed_call(random: &mut Random, mut call: Call, shapes: &[[u8; 2]]) -> Call {
+    let own = shapes.len() - 1;
+    if random.chance(2) {
+        call.id = pushed_id(random, own);
+    }
+    if let Some(&[rows, columns]) = shapes.get(usize::from(call.id)) {
+        let mut fields = [&mut call.row, &mut call.column];
+        let room = [
+            shapes[own][0].saturating_sub(rows),
+            shapes[own][1].saturating_sub(columns),
+        ];
+        for (field, bits) in fields.iter_mut().zip(room) {
+            if random.chance(2) {
+                **field = near(random, 1u64 << bits.min(32));
+            }
+        }
+    }
+    call
 }
 
 /// An id near the number of the calling array, or any earlier one.

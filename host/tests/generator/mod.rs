@@ -5,9 +5,11 @@
 
 pub mod counted;
 pub mod damage;
+pub mod editions;
 pub mod inputs;
 pub mod keys;
 pub mod limits;
+pub mod moves;
 pub mod path;
 pub mod random;
 pub mod variants;

@@ -22,7 +22,7 @@ pub fn path(random: &mut Random, records: &[Record]) -> Vec<usize> {
             let at = random.between(first, behind - 1);
             path.push(at);
             match records[at] {
-                Record::Call(call) => array = call.id.into(),
+                Record::Call(call) | Record::ScaledCall(call, _) => array = call.id.into(),
                 _ => return path,
             }
         }
@@ -36,7 +36,7 @@ pub fn end_of(path: &[usize], records: &[Record]) -> (u32, u32) {
     let (mut row, mut column) = (0, 0);
     for &at in path {
         match records[at] {
-            Record::Call(call) => {
+            Record::Call(call) | Record::ScaledCall(call, _) => {
                 let (row_bits, column_bits) = match records[openings[usize::from(call.id)]] {
                     Record::Sparse(rows, columns) | Record::Recursive(rows, columns) => {
                         (rows, columns)

@@ -1,17 +1,21 @@
-//! Second keys for compare: the same matrices written otherwise, and matrices that differ.
+//! Second keys for compare: the same matrices written otherwise, also in the other edition, and matrices
+//! that differ.
 
+use super::editions::{any_factor, edition_of, in_other_edition};
 use super::keys::any;
 use super::path::path;
 use super::random::Random;
 use super::within::{cell, value, within, Bounds};
 use crate::independent::field::{difference, sum};
-use crate::independent::key::LONGEST;
+use crate::independent::key::{Edition, LONGEST};
 use crate::independent::record::{bytes, Call, Record};
 
 /// n and n' of a list of records that begins with a head.
 pub fn shape(records: &[Record]) -> (usize, usize) {
     match records[0] {
-        Record::Head(rows, columns) => (rows.into(), columns.into()),
+        Record::Head(rows, columns) | Record::ScaledHead(rows, columns) => {
+            (rows.into(), columns.into())
+        }
         _ => unreachable!("a drawn key begins with its head"),
     }
 }
@@ -54,11 +58,13 @@ pub fn other(random: &mut Random, (rows, columns): (usize, usize)) -> Vec<Record
 pub fn reworded(random: &mut Random, records: &[Record]) -> Vec<Record> {
     let mut new = records.to_vec();
     for _ in 0..random.between(1, 3) {
-        match random.below(4) {
+        match random.below(7) {
             0 => swap_neighbours(random, &mut new),
             1 => split_a_cell(random, &mut new),
             2 => insert_an_array(random, &mut new),
-            _ => call_the_last(&mut new),
+            3 => split_a_call(random, &mut new),
+            4 => call_the_last(&mut new),
+            _ => new = in_other_edition(&new).unwrap_or(new),
         }
     }
     if bytes(&new).len() > LONGEST || arrays(&new) > 1_024 {
@@ -72,7 +78,9 @@ fn swap_neighbours(random: &mut Random, records: &mut [Record]) {
     let at = random.below(records.len() - 1);
     let alike = matches!(
         records[at..at + 2],
-        [Record::Cell(_), Record::Cell(_)] | [Record::Call(_), Record::Call(_)]
+        [Record::Cell(_), Record::Cell(_)]
+            | [Record::Call(_), Record::Call(_)]
+            | [Record::ScaledCall(..), Record::ScaledCall(..)]
     );
     if alike {
         records.swap(at, at + 1);
@@ -93,11 +101,21 @@ fn split_a_cell(random: &mut Random, records: &mut Vec<Record>) {
     }
 }
 
+/// Makes two calls of one of edition 2, whose factors add up to that of the one.
+fn split_a_call(random: &mut Random, records: &mut Vec<Record>) {
+    let at = random.below(records.len());
+    if let Record::ScaledCall(call, factor) = records[at] {
+        let share = any_factor(random);
+        records[at] = Record::ScaledCall(call, share);
+        records.insert(at, Record::ScaledCall(call, difference(factor, share)));
+    }
+}
+
 /// Puts an array that nobody calls before all others.
 fn insert_an_array(random: &mut Random, records: &mut Vec<Record>) {
     let (rows, columns) = shape(records);
     for record in records.iter_mut() {
-        if let Record::Call(call) = record {
+        if let Record::Call(call) | Record::ScaledCall(call, _) = record {
             call.id += 1;
         }
     }
@@ -110,20 +128,24 @@ fn insert_an_array(random: &mut Random, records: &mut Vec<Record>) {
 /// Puts a last array behind the last that calls it alone.
 fn call_the_last(records: &mut Vec<Record>) {
     let (rows, columns) = shape(records);
-    let last = arrays(records) - 1;
+    let call = Call {
+        id: (arrays(records) - 1) as u16,
+        row: 0,
+        column: 0,
+    };
+    let call = match edition_of(records) {
+        Edition::One => Record::Call(call),
+        Edition::Two => Record::ScaledCall(call, 1),
+    };
     records.pop();
     records.extend([
         Record::Recursive(rows as u8, columns as u8),
-        Record::Call(Call {
-            id: last as u16,
-            row: 0,
-            column: 0,
-        }),
+        call,
         Record::End,
     ]);
 }
 
-/// A key of which one value or call that the last array depends on is another than before; or else
+/// A key of which one value, call or factor that the last array depends on is another than before; or else
 /// the key as it was.
 pub fn altered(random: &mut Random, records: &[Record]) -> Vec<Record> {
     let mut new = records.to_vec();
@@ -146,7 +168,11 @@ pub fn altered(random: &mut Random, records: &[Record]) -> Vec<Record> {
                 cell.values.swap(1, 2);
             }
         }
-        Record::Call(call) => {
+        Record::ScaledCall(_, factor) if random.chance(2) => {
+            let more = if random.chance(2) { 1 } else { value(random) };
+            *factor = sum(*factor, more);
+        }
+        Record::Call(call) | Record::ScaledCall(call, _) => {
             call.row &= random.number();
             call.column &= random.number();
         }

@@ -36,7 +36,7 @@ pub fn short(random: &mut Random, windows: [Window; 2]) -> Vec<Record> {
     let [below, above] = calling(random, windows, cells, calls);
     let count = random.between(1, 3);
     let last = recursive(random, head, 1, ends(windows), count);
-    key(head, &[below, above, last])
+    key(random, head, &[below, above, last])
 }
 
 /// A key of 30 row and 30 column bits with the same calls beside 250 cells of all bits.
@@ -46,7 +46,7 @@ pub fn long(random: &mut Random, windows: [Window; 2]) -> Vec<Record> {
     let beside = sparse(random, [30, 30], 250);
     let mut last = recursive(random, [30, 30], 1, ends(windows), 2);
     last.extend_from_slice(&recursive(random, [30, 30], 2, [30, 30], 1)[1..]);
-    key([30, 30], &[below, above, beside, last])
+    key(random, [30, 30], &[below, above, beside, last])
 }
 
 /// A key of the windows' bits and hundreds of records: of calls over the windows, or of cells in the
@@ -54,7 +54,7 @@ pub fn long(random: &mut Random, windows: [Window; 2]) -> Vec<Record> {
 pub fn alone(random: &mut Random, windows: [Window; 2]) -> Vec<Record> {
     let (cells, calls) = random.pick(&[(2, 400), (400, 2)]);
     let arrays = calling(random, windows, cells, calls);
-    key(ends(windows), &arrays)
+    key(random, ends(windows), &arrays)
 }
 
 /// Array 0 with so many cells, and array 1 with so many calls of it over the windows.

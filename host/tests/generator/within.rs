@@ -1,5 +1,6 @@
 //! The records of a key drawn within bounds.
 
+use super::editions::{any_factor, call_length, edition, written_in};
 use super::random::Random;
 use crate::independent::field::P;
 use crate::independent::record::{Call, Cell, Record};
@@ -20,14 +21,16 @@ pub fn within(random: &mut Random, bounds: Bounds) -> Vec<Record> {
     of_shapes(random, &shapes, bounds.records_per_array, bounds.bytes)
 }
 
-/// A key of arrays of these shapes, each with up to so many records, and of at most so many bytes. The
-/// last shape is that of the head.
+/// A key, of either edition, of arrays of these shapes, each with up to so many records, and of at most
+/// so many bytes. The last shape is that of the head.
 pub fn of_shapes(
     random: &mut Random,
     shapes: &[[u8; 2]],
     records_per_array: usize,
     bytes: usize,
 ) -> Vec<Record> {
+    let edition = edition(random);
+    let length = call_length(edition);
     let [rows, columns] = shapes[shapes.len() - 1];
     let mut records = vec![Record::Head(rows, columns)];
     let mut filled = Vec::new();
@@ -41,8 +44,8 @@ pub fn of_shapes(
         };
         if random.chance(if array == 0 { 10 } else { 3 }) == (array == 0) {
             records.push(Record::Recursive(shape[0], shape[1]));
-            let count = count.min(room / 11);
-            room -= 11 * add_calls(random, &mut records, shape, shapes, &filled, count);
+            let count = count.min(room / length);
+            room -= length * add_calls(random, &mut records, shape, shapes, &filled, count);
         } else {
             records.push(Record::Sparse(shape[0], shape[1]));
             let count = count.min(room / 21);
@@ -52,7 +55,7 @@ pub fn of_shapes(
         filled.push(records.len() > opening + 1);
     }
     records.push(Record::End);
-    records
+    written_in(random, edition, &records, any_factor)
 }
 
 /// The shapes of the arrays, in three of four keys growing from array to array.

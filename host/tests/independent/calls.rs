@@ -83,7 +83,7 @@ fn additions(key: &Key) -> Option<usize> {
         }
         total += 1 << (array.row_bits + array.column_bits);
         if let Body::Recursive(calls) = &array.body {
-            for call in calls {
+            for (call, _) in calls {
                 let called = &key.arrays[usize::from(call.id)];
                 total += 1 << (called.row_bits + called.column_bits);
             }

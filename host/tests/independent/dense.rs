@@ -2,7 +2,7 @@
 
 use std::collections::HashMap;
 
-use super::field::{eq, sum, Field};
+use super::field::{eq, product, sum, Field};
 use super::key::{Array, Body, Key};
 
 /// An array's A, B and C at every place that holds something; they are zero elsewhere.
@@ -35,6 +35,11 @@ fn add(to: &mut [u32; 3], values: [u32; 3]) {
     }
 }
 
+/// Three values times a factor.
+fn scaled(values: [u32; 3], factor: u32) -> [u32; 3] {
+    values.map(|value| product(value, factor))
+}
+
 /// The dense form of every array, in the order of the key.
 pub fn unroll(key: &Key) -> Vec<Matrix> {
     let mut matrices: Vec<Matrix> = Vec::new();
@@ -60,7 +65,7 @@ fn unroll_array(array: &Array, earlier: &[Matrix]) -> Matrix {
             }
         }
         Body::Recursive(calls) => {
-            for call in calls {
+            for &(call, factor) in calls {
                 let called = &earlier[usize::from(call.id)];
                 for row in 0..1 << called.row_bits {
                     for column in 0..1 << called.column_bits {
@@ -68,7 +73,8 @@ fn unroll_array(array: &Array, earlier: &[Matrix]) -> Matrix {
                             row + (call.row << called.row_bits),
                             column + (call.column << called.column_bits),
                         );
-                        add(&mut matrix.places[index], called.at(row, column));
+                        let values = scaled(called.at(row, column), factor);
+                        add(&mut matrix.places[index], values);
                     }
                 }
             }
@@ -119,7 +125,7 @@ pub fn unroll_places(key: &Key, most: usize) -> Option<Vec<Places>> {
                 }
             }
             Body::Recursive(calls) => {
-                for call in calls {
+                for &(call, factor) in calls {
                     let id = usize::from(call.id);
                     count += unrolled[id].len() + 1;
                     if count > most {
@@ -128,7 +134,8 @@ pub fn unroll_places(key: &Key, most: usize) -> Option<Vec<Places>> {
                     for (&(row, column), &values) in &unrolled[id] {
                         let row = row + (call.row << key.arrays[id].row_bits);
                         let column = column + (call.column << key.arrays[id].column_bits);
-                        add(places.entry((row, column)).or_default(), values);
+                        let place = places.entry((row, column)).or_default();
+                        add(place, scaled(values, factor));
                     }
                 }
             }

@@ -11,11 +11,18 @@ pub const MOST_ARRAYS: usize = 1_024;
 /// The greatest number of row bits and of column bits.
 pub const MOST_BITS: u32 = 30;
 
-/// What an array holds.
+/// The edition of a key, which its head tells.
+#[derive(Debug, Clone, Copy, PartialEq, Eq)]
+pub enum Edition {
+    One,
+    Two,
+}
+
+/// What an array holds; a call stands with its factor, which is 1 in edition 1.
 #[derive(Debug, Clone, PartialEq, Eq)]
 pub enum Body {
     Sparse(Vec<Cell>),
-    Recursive(Vec<Call>),
+    Recursive(Vec<(Call, u32)>),
 }
 
 /// An array: its row bits k, its column bits k', and its records.
@@ -26,9 +33,10 @@ pub struct Array {
     pub body: Body,
 }
 
-/// A key: n, n', and its arrays.
+/// A key: its edition, n, n', and its arrays.
 #[derive(Debug, Clone, PartialEq, Eq)]
 pub struct Key {
+    pub edition: Edition,
     pub rows: u32,
     pub columns: u32,
     pub arrays: Vec<Array>,
@@ -40,13 +48,16 @@ pub fn read(bytes: &[u8]) -> Result<Key, Refusal> {
         return refuse(1, LONGEST);
     }
     let (record, mut at) = take(bytes, 0)?;
-    let mut key = match record {
-        Record::Head(rows, columns) => Key {
-            rows: rows.into(),
-            columns: columns.into(),
-            arrays: Vec::new(),
-        },
+    let (edition, rows, columns) = match record {
+        Record::Head(rows, columns) => (Edition::One, rows, columns),
+        Record::ScaledHead(rows, columns) => (Edition::Two, rows, columns),
         _ => return refuse(4, 0),
+    };
+    let mut key = Key {
+        edition,
+        rows: rows.into(),
+        columns: columns.into(),
+        arrays: Vec::new(),
     };
     if key.rows > MOST_BITS || key.columns > MOST_BITS {
         return refuse(5, 0);
@@ -70,7 +81,7 @@ pub fn read(bytes: &[u8]) -> Result<Key, Refusal> {
 /// The first of the rules 4 to 12, in the request's order, that a record behind the head breaks.
 fn broken_rule(key: &Key, record: &Record) -> Option<u32> {
     match *record {
-        Record::Head(..) => Some(4),
+        Record::Head(..) | Record::ScaledHead(..) => Some(4),
         Record::Sparse(row_bits, column_bits) | Record::Recursive(row_bits, column_bits) => {
             if key.arrays.len() == MOST_ARRAYS {
                 return Some(6);
@@ -82,12 +93,10 @@ fn broken_rule(key: &Key, record: &Record) -> Option<u32> {
             Some(array) if matches!(array.body, Body::Sparse(_)) => broken_by_cell(array, &cell),
             _ => Some(4),
         },
-        Record::Call(call) => match key.arrays.last() {
-            Some(array) if matches!(array.body, Body::Recursive(_)) => {
-                broken_by_call(&key.arrays, array, &call)
-            }
-            _ => Some(4),
-        },
+        Record::Call(_) if key.edition == Edition::Two => Some(4),
+        Record::ScaledCall(..) if key.edition == Edition::One => Some(4),
+        Record::Call(call) => broken_by_call(&key.arrays, &call, 1),
+        Record::ScaledCall(call, factor) => broken_by_call(&key.arrays, &call, factor),
         Record::End => match key.arrays.last() {
             None => Some(4),
             Some(last) => {
@@ -108,8 +117,15 @@ fn broken_by_cell(array: &Array, cell: &Cell) -> Option<u32> {
     cell.values.iter().any(|&value| value >= P).then_some(8)
 }
 
-/// The first of the rules 9 to 11 that a call in this array, the last of all, breaks.
-fn broken_by_call(arrays: &[Array], array: &Array, call: &Call) -> Option<u32> {
+/// The first of the rules 4 and 8 to 11 that a call of the key's edition in the last of these arrays breaks.
+fn broken_by_call(arrays: &[Array], call: &Call, factor: u32) -> Option<u32> {
+    let array = match arrays.last() {
+        Some(array) if matches!(array.body, Body::Recursive(_)) => array,
+        _ => return Some(4),
+    };
+    if factor >= P {
+        return Some(8);
+    }
     let own = arrays.len() - 1;
     if usize::from(call.id) >= own {
         return Some(9);
@@ -145,7 +161,8 @@ fn add(key: &mut Key, record: Record) {
     let last = key.arrays.last_mut().expect("an array is open");
     match (&mut last.body, record) {
         (Body::Sparse(cells), Record::Cell(cell)) => cells.push(cell),
-        (Body::Recursive(calls), Record::Call(call)) => calls.push(call),
+        (Body::Recursive(calls), Record::Call(call)) => calls.push((call, 1)),
+        (Body::Recursive(calls), Record::ScaledCall(call, factor)) => calls.push((call, factor)),
         _ => unreachable!("the rules admit no other record"),
     }
 }

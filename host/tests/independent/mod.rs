@@ -1,9 +1,10 @@
 //! An implementation written from the request alone, to which the tests hold the archive.
 //!
 //! - `field`: the fields of p and of p² elements by `%`, and eq.
-//! - `record`: the six records, taken from bytes and put into bytes.
+//! - `record`: the eight records, taken from bytes and put into bytes.
 //! - `key`: a key read and judged.
 //! - `dense`: the matrices of every array unrolled, and their multilinear extensions.
+//! - `edition`: a key moved into the other edition.
 //! - `calls`: check, evaluate, cell and compare on top of these, evaluate and compare over either field.
 //! - `pass`: the same calls without unrolling, written for speed.
 
@@ -12,6 +13,7 @@
 
 pub mod calls;
 pub mod dense;
+pub mod edition;
 pub mod field;
 pub mod key;
 pub mod pass;

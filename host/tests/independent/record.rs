@@ -1,4 +1,4 @@
-//! The six records of a key.
+//! The eight records of a key.
 
 use super::{refuse, Refusal};
 
@@ -27,15 +27,19 @@ pub enum Record {
     Cell(Cell),
     Call(Call),
     End,
+    ScaledHead(u8, u8),
+    /// A call of edition 2: the fields of a call, and the factor.
+    ScaledCall(Call, u32),
 }
 
 /// The number of bytes of a record of this kind, with the kind.
 fn length(kind: u8) -> Option<usize> {
     match kind {
-        1..=3 => Some(3),
+        1..=3 | 7 => Some(3),
         4 => Some(21),
         5 => Some(11),
         6 => Some(1),
+        8 => Some(15),
         _ => None,
     }
 }
@@ -52,6 +56,11 @@ pub fn take(bytes: &[u8], at: usize) -> Result<(Record, usize), Refusal> {
         return refuse(2, at);
     };
     let word = |from: usize| u32::from_le_bytes(body[from..from + 4].try_into().unwrap());
+    let call = || Call {
+        id: u16::from_le_bytes([body[0], body[1]]),
+        row: word(2),
+        column: word(6),
+    };
     let record = match kind {
         1 => Record::Head(body[0], body[1]),
         2 => Record::Sparse(body[0], body[1]),
@@ -61,11 +70,9 @@ pub fn take(bytes: &[u8], at: usize) -> Result<(Record, usize), Refusal> {
             column: word(4),
             values: [word(8), word(12), word(16)],
         }),
-        5 => Record::Call(Call {
-            id: u16::from_le_bytes([body[0], body[1]]),
-            row: word(2),
-            column: word(6),
-        }),
+        5 => Record::Call(call()),
+        7 => Record::ScaledHead(body[0], body[1]),
+        8 => Record::ScaledCall(call(), word(10)),
         _ => Record::End,
     };
     Ok((record, at + length))
@@ -87,12 +94,23 @@ pub fn put(record: &Record, bytes: &mut Vec<u8>) {
         }
         Record::Call(call) => {
             bytes.push(5);
-            bytes.extend(call.id.to_le_bytes());
-            bytes.extend(call.row.to_le_bytes());
-            bytes.extend(call.column.to_le_bytes());
+            put_call(call, bytes);
         }
         Record::End => bytes.push(6),
+        Record::ScaledHead(rows, columns) => bytes.extend([7, rows, columns]),
+        Record::ScaledCall(call, factor) => {
+            bytes.push(8);
+            put_call(call, bytes);
+            bytes.extend(factor.to_le_bytes());
+        }
     }
+}
+
+/// The bytes of a call's three fields.
+fn put_call(call: Call, bytes: &mut Vec<u8>) {
+    bytes.extend(call.id.to_le_bytes());
+    bytes.extend(call.row.to_le_bytes());
+    bytes.extend(call.column.to_le_bytes());
 }
 
 /// The bytes of a list of records.

@@ -14,7 +14,10 @@ fn help_says_how_the_program_is_used() {
         "show",
         "evaluate",
         "cell",
+        "move",
         "compare",
+        "--to",
+        "--force",
         "--points",
         "--point ",
         "--pairs",
@@ -53,6 +56,8 @@ fn wrong_usage_is_said() {
         ),
         (&["evaluate", "sample", "--point"], "--point needs a value"),
         (&["cell", "sample", "0", "x"], "COLUMN"),
+        (&["move", "sample"], "move needs --to FILE"),
+        (&["move", "sample", "--to=-"], "standard output (-)"),
         (
             &["compare", "sample", "sample", "--points", "0"],
             "1 to 1000000",
@@ -74,6 +79,7 @@ fn an_unreadable_file_is_named() {
         &["evaluate", "absent"],
         &["evaluate", "sample", "--point", "absent"],
         &["cell", "absent", "0", "0"],
+        &["move", "absent", "--to", "new"],
         &["compare", "absent", "sample"],
         &["compare", "sample", "absent"],
     ] {

@@ -1,16 +1,16 @@
 //! Answers as JSON: one object a line, for each command.
 
-use crate::keys::{flat, sample, single};
+use crate::keys::{flat, sample, scaled, single};
 use crate::support::Folder;
 
 #[test]
 fn check_has_an_object_for_each_key() {
     let folder = Folder::new("json-check", &[("sample", &sample()), ("bad", b"\xff")]);
     let sample = "{\"command\":\"check\",\"file\":\"sample\",\"status\":\"accepted\",\"bytes\":53,\
-        \"arrays\":2,\"cells\":1,\"calls\":2,\"rows\":1,\"columns\":1}\n";
+        \"arrays\":2,\"cells\":1,\"calls\":2,\"rows\":1,\"columns\":1,\"edition\":1}\n";
     let bad =
         "{\"command\":\"check\",\"file\":\"bad\",\"status\":\"refused\",\"number\":3,\"place\":0,\
-        \"reason\":\"unknown kind\",\"detail\":\"kind ff, and kinds are 01 to 06\"}\n";
+        \"reason\":\"unknown kind\",\"detail\":\"kind ff, and kinds are 01 to 08\"}\n";
     let absent = "{\"command\":\"check\",\"file\":\"absent\",\"status\":\"failed\",\
         \"message\":\"cannot read \\\"absent\\\": No such file or directory (os error 2)\"}\n";
     folder
@@ -20,6 +20,14 @@ fn check_has_an_object_for_each_key() {
     folder
         .run(&["check", "sample", "absent", "bad", "--json"])
         .answers(3, &[sample, absent, bad].concat());
+    folder.write("scaled", &scaled(2, 3));
+    let scaled = sample
+        .replace("sample", "scaled")
+        .replace("53", "61")
+        .replace("\"edition\":1", "\"edition\":2");
+    folder
+        .run(&["check", "--json", "scaled"])
+        .answers(0, &scaled);
     let ran = folder.run(&["check", "--json", "absent"]);
     assert_eq!((ran.status, ran.out.as_str()), (Some(3), absent));
     assert!(ran.errors.starts_with("morgana: cannot read \"absent\""));
@@ -32,7 +40,7 @@ fn show_has_an_object_for_each_record_and_one_for_the_key() {
     let line =
         |file: &str, rest: &str| format!("{{\"command\":\"show\",\"file\":\"{file}\",{rest}}}\n");
     let records = [
-        "\"offset\":0,\"fault\":false,\"kind\":\"head\",\"row_bits\":1,\"column_bits\":1",
+        "\"offset\":0,\"fault\":false,\"kind\":\"head\",\"edition\":1,\"row_bits\":1,\"column_bits\":1",
         "\"offset\":3,\"fault\":false,\"kind\":\"sparse\",\"array\":0,\"row_bits\":0,\"column_bits\":1",
         "\"offset\":6,\"fault\":false,\"kind\":\"cell\",\"array\":0,\"row\":0,\"column\":1,\"a\":5,\"b\":7,\"c\":0",
         "\"offset\":27,\"fault\":false,\"kind\":\"recursive\",\"array\":1,\"row_bits\":1,\"column_bits\":1",
@@ -49,7 +57,7 @@ fn show_has_an_object_for_each_record_and_one_for_the_key() {
     for rest in [
         "\"offset\":30,\"fault\":true,\"kind\":\"call\",\"array\":1,\"wanted\":11,\"left\":10",
         "\"status\":\"refused\",\"number\":2,\"place\":30,\"reason\":\"record missing or cut off\",\
-         \"detail\":\"a call has 11 bytes and 10 are left\"",
+         \"detail\":\"a call of edition 1 has 11 bytes and 10 are left\"",
     ] {
         wanted.push_str(&line("cut", rest));
     }
@@ -66,6 +74,29 @@ fn show_has_an_object_for_each_record_and_one_for_the_key() {
         let ran = folder.run(&["show", "--json", "cut"]);
         let fault = format!("\"fault\":true,{fault}}}\n");
         assert_eq!(ran.out.matches(&fault).count(), 1, "{}", ran.out);
+    }
+}
+
+#[test]
+fn show_has_the_factors_of_edition_2() {
+    let whole = scaled(3, morgana::P - 1);
+    let folder = Folder::new("json-scaled", &[("whole", &whole), ("cut", &whole[..59])]);
+    let head = "\"kind\":\"head\",\"edition\":2,\"row_bits\":1,\"column_bits\":1}";
+    let call = |rest: &str| format!("\"kind\":\"call\",\"array\":1,{rest}}}");
+    let called = |factor: u32| {
+        let positions = "\"row_position\":0,\"column_position\":0";
+        call(&format!("\"id\":0,{positions},\"factor\":{factor}"))
+    };
+    let cut = call("\"wanted\":15,\"left\":14");
+    for (name, status, wanted) in [
+        ("whole", 0, [called(3), called(morgana::P - 1)]),
+        ("cut", 2, [called(3), cut]),
+    ] {
+        let ran = folder.run(&["show", name, "--json"]);
+        ran.status(status);
+        for object in [head.to_owned()].into_iter().chain(wanted) {
+            assert_eq!(ran.out.matches(&object).count(), 1, "{object}\n{}", ran.out);
+        }
     }
 }
 
@@ -119,6 +150,47 @@ fn cell_has_an_object() {
              \"detail\":\"column 2 given, and columns are 0 to 1\"}}\n"
         ),
     );
+}
+
+#[test]
+fn move_has_an_object() {
+    let folder = Folder::new(
+        "json-move",
+        &[("sample", &sample()), ("two", &scaled(1, 2))],
+    );
+    let start = |file: &str, to: &str| {
+        format!("{{\"command\":\"move\",\"file\":\"{file}\",\"to\":\"{to}\",\"status\":")
+    };
+    for (file, to, wanted) in [
+        (
+            "sample",
+            "there",
+            "\"bytes\":53,\"edition\":1,\"to_bytes\":61,\"to_edition\":2",
+        ),
+        (
+            "there",
+            "back",
+            "\"bytes\":61,\"edition\":2,\"to_bytes\":53,\"to_edition\":1",
+        ),
+    ] {
+        let wanted = format!("{}\"accepted\",{wanted}}}\n", start(file, to));
+        folder
+            .run(&["move", file, "--to", to, "--json"])
+            .answers(0, &wanted);
+    }
+    let wanted = "\"refused\",\"number\":55,\"place\":45,\"reason\":\"a factor other than 1 on the way back\",\
+         \"detail\":\"array 0 is called in array 1 with factor 2, and in edition 1 every factor is 1\"}\n";
+    folder
+        .run(&["move", "two", "--to", "one", "--json"])
+        .answers(2, &(start("two", "one") + wanted));
+    let ran = folder.run(&["move", "sample", "--to", "two", "--json"]);
+    let message = "cannot write \\\"two\\\": it exists, and --force is not given";
+    let wanted = format!(
+        "{}\"failed\",\"message\":\"{message}\"}}\n",
+        start("sample", "two")
+    );
+    assert_eq!((ran.status, ran.out), (Some(3), wanted));
+    assert!(ran.errors.starts_with("morgana: cannot write \"two\""));
 }
 
 #[test]
@@ -193,13 +265,13 @@ fn compare_has_an_object_for_each_pair() {
     }
     let bad = start("point", "flat")
         + "\"refused\",\"number\":3,\"place\":0,\"reason\":\"unknown kind\",\
-           \"detail\":\"kind 72, and kinds are 01 to 06\",\"key\":\"old\"}\n";
+           \"detail\":\"kind 72, and kinds are 01 to 08\",\"key\":\"old\"}\n";
     folder
         .run(&["compare", "point", "flat", "--json"])
         .answers(2, &bad);
     let bad = start("flat", "point")
         + "\"refused\",\"number\":3,\"place\":0,\"reason\":\"unknown kind\",\
-           \"detail\":\"kind 72, and kinds are 01 to 06\",\"key\":\"new\"}\n";
+           \"detail\":\"kind 72, and kinds are 01 to 08\",\"key\":\"new\"}\n";
     folder
         .run(&["compare", "flat", "point", "--json"])
         .answers(2, &bad);

@@ -3,7 +3,7 @@
 /// The end.
 pub const END: [u8; 1] = [6];
 
-/// The record of the head.
+/// The record of the head of edition 1.
 pub fn head(rows: u8, columns: u8) -> Vec<u8> {
     vec![1, rows, columns]
 }
@@ -24,10 +24,21 @@ pub fn cell(row: u32, column: u32, a: u32, b: u32, c: u32) -> Vec<u8> {
     [&[4][..], &words.concat()].concat()
 }
 
-/// The record of a call.
+/// The record of a call of edition 1.
 pub fn call(id: u16, row: u32, column: u32) -> Vec<u8> {
     let positions = [row, column].map(u32::to_le_bytes);
     [&[5][..], &id.to_le_bytes(), &positions.concat()].concat()
+}
+
+/// The record of the head of edition 2.
+pub fn scaled_head(rows: u8, columns: u8) -> Vec<u8> {
+    vec![7, rows, columns]
+}
+
+/// The record of a call of edition 2.
+pub fn scaled_call(id: u16, row: u32, column: u32, factor: u32) -> Vec<u8> {
+    let called = &call(id, row, column)[1..];
+    [&[8], called, &factor.to_le_bytes()].concat()
 }
 
 /// The key of the keysheet example.
@@ -39,6 +50,32 @@ pub fn sample() -> Vec<u8> {
         recursive(1, 1),
         call(0, 0, 0),
         call(0, 0, 0),
+        END.to_vec(),
+    ]
+    .concat()
+}
+
+/// A key of edition 2 that is the sample but for the factors of its two calls.
+pub fn scaled(first: u32, second: u32) -> Vec<u8> {
+    [
+        scaled_head(1, 1),
+        sparse(0, 1),
+        cell(0, 1, 5, 7, 0),
+        recursive(1, 1),
+        scaled_call(0, 0, 0, first),
+        scaled_call(0, 0, 0, second),
+        END.to_vec(),
+    ]
+    .concat()
+}
+
+/// A key of edition 1 of so many arrays before the last, which has so many calls.
+pub fn calling(arrays: usize, calls: usize) -> Vec<u8> {
+    [
+        head(0, 0),
+        sparse(0, 0).repeat(arrays),
+        recursive(0, 0),
+        call(0, 0, 0).repeat(calls),
         END.to_vec(),
     ]
     .concat()

@@ -6,6 +6,7 @@ mod json;
 mod keys;
 mod listings;
 mod many;
+mod moves;
 mod outputs;
 mod refusals;
 mod replays;

@@ -16,7 +16,7 @@ fn check_goes_on_behind_a_fault() {
         "key 53 bytes arrays 2 cells 1 calls 2 rows 1 columns 1; \"sample\"\n",
         "key 28 bytes arrays 1 cells 1 calls 0 rows 1 columns 1; \"flat\"\n",
     ];
-    let refused = "refused 3 at 0: unknown kind; kind ff, and kinds are 01 to 06; key \"bad\"\n";
+    let refused = "refused 3 at 0: unknown kind; kind ff, and kinds are 01 to 08; key \"bad\"\n";
     folder
         .run(&["check", "sample", "flat"])
         .answers(0, &accepted.concat());
@@ -61,7 +61,7 @@ fn folders_are_compared_by_the_paths_in_them() {
     folder.write("new/deep/bad", b"\xff");
     folder.write("old/deep/bad", &sample());
     let refused =
-        "refused 3 at 0: unknown kind; kind ff, and kinds are 01 to 06; new key \"new/deep/bad\"; \
+        "refused 3 at 0: unknown kind; kind ff, and kinds are 01 to 08; new key \"new/deep/bad\"; \
          keys \"old/deep/bad\" \"new/deep/bad\"\n";
     let wanted = [&same[0], &same[1], different, refused, &same[2]].concat();
     folder.run(&["compare", "old/", "new"]).status(2);

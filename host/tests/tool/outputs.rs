@@ -1,6 +1,6 @@
 //! Output that cannot be written, and output that is closed.
 
-use crate::keys::{flat, longest, sample};
+use crate::keys::{flat, longest, sample, scaled};
 use crate::support::{Folder, Ran};
 use std::fs::File;
 use std::os::fd::OwnedFd;
@@ -80,6 +80,37 @@ fn a_file_that_may_not_grow_is_said() {
     let folder = Folder::new("limit", &[("sample", &sample())]);
     let ran = in_shell(&folder, "ulimit -f 0", "check sample > out");
     ran.fails(&["cannot write to standard output: File too large"]);
+}
+
+#[test]
+fn a_copy_that_may_not_grow_is_not_there() {
+    let folder = Folder::new("limit-copy", &[("sample", &sample()), ("kept", b"kept")]);
+    for (line, name) in [
+        ("move sample --to new", "new"),
+        ("move sample --to kept --force", "kept"),
+    ] {
+        let ran = in_shell(&folder, "ulimit -f 0", line);
+        ran.fails(&[&format!("cannot write \"{name}\": File too large")]);
+        assert_eq!(folder.names(), ["kept", "sample"]);
+        assert_eq!(folder.read("kept"), b"kept");
+    }
+}
+
+#[test]
+fn nothing_is_written_where_the_output_is_closed() {
+    let folder = Folder::new("closed-copy", &[("sample", &sample())]);
+    let ran = in_shell(&folder, ":", "move sample --to new >&-");
+    ran.fails(&["cannot write to standard output: it is closed"]);
+    assert_eq!(folder.names(), ["sample"]);
+}
+
+#[test]
+fn a_copy_that_is_written_stays_where_the_answer_cannot_be() {
+    let folder = Folder::new("full-copy", &[("sample", &sample())]);
+    let ran = in_shell(&folder, ":", "move sample --to new >/dev/full");
+    ran.fails(&["cannot write to standard output: "]);
+    assert_eq!(folder.names(), ["new", "sample"]);
+    assert_eq!(folder.read("new"), scaled(1, 1));
 }
 
 #[test]

@@ -1,6 +1,8 @@
 //! Refusals: what is known of each stands on its line.
 
-use crate::keys::{call, cell, head, recursive, sample, single, sparse, END};
+use crate::keys::{
+    call, cell, head, recursive, sample, scaled_call, scaled_head, single, sparse, END,
+};
 use crate::support::Folder;
 
 /// A key that is refused, with its line up to the file's name.
@@ -17,6 +19,7 @@ fn refused() -> Vec<(Vec<u8>, &'static str)> {
         ]
         .concat()
     };
+    let scaled = |rest: Vec<u8>| [scaled_head(2, 1), sparse(1, 1), recursive(2, 1), rest].concat();
     let inner = |rest: Vec<u8>| [head(2, 1), sparse(2, 0), recursive(1, 0), rest].concat();
     let wider = |rest: Vec<u8>| [head(2, 1), sparse(0, 1), recursive(1, 0), rest].concat();
     vec![
@@ -31,8 +34,18 @@ fn refused() -> Vec<(Vec<u8>, &'static str)> {
             "2 at 6: record missing or cut off; the opening of a sparse array has 3 bytes and 2 are left",
         ),
         (opened(vec![]), "2 at 6: record missing or cut off; the key has 6 bytes and no end"),
-        (vec![0], "3 at 0: unknown kind; kind 00, and kinds are 01 to 06"),
-        (opened(vec![171]), "3 at 6: unknown kind; kind ab, and kinds are 01 to 06"),
+        (
+            calling(vec![5, 0, 0]),
+            "2 at 12: record missing or cut off; a call of edition 1 has 11 bytes and 3 are left",
+        ),
+        (
+            calling(scaled_call(0, 0, 0, 1)[..14].to_vec()),
+            "2 at 12: record missing or cut off; a call of edition 2 has 15 bytes and 14 are left",
+        ),
+        (vec![7, 0], "2 at 0: record missing or cut off; a head has 3 bytes and 2 are left"),
+        (vec![0], "3 at 0: unknown kind; kind 00, and kinds are 01 to 08"),
+        (opened(vec![9]), "3 at 6: unknown kind; kind 09, and kinds are 01 to 08"),
+        (opened(vec![171]), "3 at 6: unknown kind; kind ab, and kinds are 01 to 08"),
         (
             END.to_vec(),
             "4 at 0: record not allowed at this point, or end before any array; \
@@ -45,11 +58,39 @@ fn refused() -> Vec<(Vec<u8>, &'static str)> {
         ),
         (
             opened(head(0, 0)),
-            "4 at 6: record not allowed at this point, or end before any array; a second head",
+            "4 at 6: record not allowed at this point, or end before any array; a second head, of edition 1",
+        ),
+        (
+            opened(scaled_head(0, 0)),
+            "4 at 6: record not allowed at this point, or end before any array; a second head, of edition 2",
+        ),
+        (
+            scaled(head(2, 1)),
+            "4 at 9: record not allowed at this point, or end before any array; a second head, of edition 1",
+        ),
+        (
+            scaled_call(0, 0, 0, 1),
+            "4 at 0: record not allowed at this point, or end before any array; \
+             the first record is a call of edition 2, and a key begins with a head",
+        ),
+        (
+            scaled(call(9, 9, 9)),
+            "4 at 9: record not allowed at this point, or end before any array; \
+             a call of edition 1 in array 1, and the key is of edition 2",
+        ),
+        (
+            calling(scaled_call(9, 9, 9, p)),
+            "4 at 12: record not allowed at this point, or end before any array; \
+             a call of edition 2 in array 2, and the key is of edition 1",
+        ),
+        (
+            opened(scaled_call(0, 0, 0, 1)),
+            "4 at 6: record not allowed at this point, or end before any array; \
+             a call of edition 2 in array 0, which is sparse",
         ),
         (
             [head(0, 0), call(0, 0, 0)].concat(),
-            "4 at 3: record not allowed at this point, or end before any array; a call before any array",
+            "4 at 3: record not allowed at this point, or end before any array; a call of edition 1 before any array",
         ),
         (
             [head(0, 0), END.to_vec()].concat(),
@@ -58,13 +99,14 @@ fn refused() -> Vec<(Vec<u8>, &'static str)> {
         (
             opened(call(0, 0, 0)),
             "4 at 6: record not allowed at this point, or end before any array; \
-             a call in array 0, which is sparse",
+             a call of edition 1 in array 0, which is sparse",
         ),
         (
             calling(cell(0, 0, 0, 0, 0)),
             "4 at 12: record not allowed at this point, or end before any array; \
              a cell in array 2, which is recursive",
         ),
+        (scaled_head(31, 0), "5 at 0: head bits over 30, or array bits over the head's; row bits 31, at most 30"),
         (head(31, 99), "5 at 0: head bits over 30, or array bits over the head's; row bits 31, at most 30"),
         (head(30, 99), "5 at 0: head bits over 30, or array bits over the head's; column bits 99, at most 30"),
         (
@@ -89,11 +131,31 @@ fn refused() -> Vec<(Vec<u8>, &'static str)> {
         ),
         (
             opened(cell(0, 0, p, p, 0)),
-            "8 at 6: cell value p or more; A is 2147483647 in array 0, at most 2147483646",
+            "8 at 6: cell value or factor p or more; A is 2147483647 in array 0, at most 2147483646",
         ),
         (
             opened([sparse(0, 0), cell(0, 0, 0, 0, u32::MAX)].concat()),
-            "8 at 9: cell value p or more; C is 4294967295 in array 1, at most 2147483646",
+            "8 at 9: cell value or factor p or more; C is 4294967295 in array 1, at most 2147483646",
+        ),
+        (
+            scaled(scaled_call(1, 9, 9, p)),
+            "8 at 9: cell value or factor p or more; the factor is 2147483647 in array 1, at most 2147483646",
+        ),
+        (
+            scaled([scaled_call(0, 0, 0, p - 1), scaled_call(0, 0, 0, u32::MAX)].concat()),
+            "8 at 24: cell value or factor p or more; the factor is 4294967295 in array 1, at most 2147483646",
+        ),
+        (
+            scaled(scaled_call(1, 9, 9, p - 1)),
+            "9 at 9: called id not earlier; array 1 called in array 1, and only array 0 is earlier",
+        ),
+        (
+            scaled(scaled_call(0, 2, 9, 0)),
+            "11 at 9: call position too great; row position 2 of array 0 in array 1, at most 1",
+        ),
+        (
+            [scaled_head(2, 1), sparse(2, 0), recursive(1, 0), scaled_call(0, 0, 0, 1)].concat(),
+            "10 at 9: called array larger in rows or columns; array 0 has row bits 2, and array 1 1",
         ),
         (
             [head(0, 0), recursive(0, 0), call(0, 0, 0)].concat(),
@@ -151,9 +213,11 @@ fn a_refused_key_is_told_with_the_field_that_breaks_the_rule() {
             &["check", "key"][..],
             &["evaluate", "key"],
             &["cell", "key", "0", "0"],
+            &["move", "key", "--to", "copy"],
         ] {
             folder.run(arguments).answers(2, &wanted);
         }
+        assert_eq!(folder.names(), ["key", "sample"]);
         let shown = folder.run(&["show", "key"]);
         assert_eq!(shown.status, Some(2));
         assert!(shown.out.ends_with(&wanted), "{}", shown.out);

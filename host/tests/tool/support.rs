@@ -2,7 +2,7 @@
 
 use std::ffi::OsStr;
 use std::fs;
-use std::io::Write;
+use std::io::{self, Write};
 use std::os::unix::fs::symlink;
 use std::path::{Path, PathBuf};
 use std::process::{self, Command, Output, Stdio};
@@ -34,6 +34,22 @@ impl Folder {
     /// Writes a file.
     pub fn write(&self, name: impl AsRef<Path>, bytes: &[u8]) {
         fs::write(self.0.join(name), bytes).expect("the file is written");
+    }
+
+    /// The bytes of a file.
+    pub fn read(&self, name: impl AsRef<Path>) -> Vec<u8> {
+        fs::read(self.0.join(name)).expect("the file is read")
+    }
+
+    /// The names of what stands in the folder, in order.
+    pub fn names(&self) -> Vec<String> {
+        let entries = fs::read_dir(&self.0).expect("the folder is read");
+        let name = |entry: io::Result<fs::DirEntry>| entry.expect("the folder is read").file_name();
+        let mut names: Vec<_> = entries
+            .map(|entry| name(entry).to_string_lossy().into_owned())
+            .collect();
+        names.sort();
+        names
     }
 
     /// Makes a folder in this one.

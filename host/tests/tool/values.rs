@@ -1,6 +1,6 @@
 //! The commands that answer values of a key: evaluate and cell.
 
-use crate::keys::sample;
+use crate::keys::{sample, scaled};
 use crate::support::Folder;
 
 #[test]
@@ -72,6 +72,24 @@ fn cell_prints_the_values() {
         folder
             .run(&["cell", "sample", row, column])
             .answers(status, wanted);
+    }
+}
+
+#[test]
+fn a_factor_multiplies_what_is_called() {
+    let p = morgana::P;
+    let folder = Folder::new("factors", &[("point", b"rows 3\ncolumns 4\n")]);
+    for (first, second, cell, array) in [
+        (1, 1, "A 10 B 14 C 0\n", "1 2147483567 2147483535 0\n"),
+        (p - 1, 3, "A 10 B 14 C 0\n", "1 2147483567 2147483535 0\n"),
+        (p - 1, 1, "A 0 B 0 C 0\n", "1 0 0 0\n"),
+        (0, 5, "A 25 B 35 C 0\n", "1 2147483447 2147483367 0\n"),
+    ] {
+        folder.write("key", &scaled(first, second));
+        folder.run(&["cell", "key", "0", "1"]).answers(0, cell);
+        let ran = folder.run(&["evaluate", "key", "--point=point"]);
+        assert!(ran.out.contains("\n0 20 28 0\n"), "{}", ran.out);
+        assert!(ran.out.contains(array), "{}", ran.out);
     }
 }
 

@@ -26,12 +26,24 @@ pub fn call(id: u16, row: u32, column: u32) -> Record {
     Record::Call(Call { id, row, column })
 }
 
+/// A call of edition 2.
+pub fn scaled_call(id: u16, row: u32, column: u32, factor: u32) -> Record {
+    Record::ScaledCall(Call { id, row, column }, factor)
+}
+
 /// The bytes of a head, these records and an end.
 pub fn key(rows: u8, columns: u8, body: &[Record]) -> Vec<u8> {
     let mut records = vec![Record::Head(rows, columns)];
     records.extend_from_slice(body);
     records.push(Record::End);
     bytes(&records)
+}
+
+/// The bytes of a head of edition 2, these records and an end.
+pub fn scaled_key(rows: u8, columns: u8, body: &[Record]) -> Vec<u8> {
+    let mut bytes = key(rows, columns, body);
+    bytes[0] = 7;
+    bytes
 }
 
 /// The key of the request's keysheet input.
@@ -69,7 +81,7 @@ pub fn accepts(key: &[u8], arrays: u32, cells: u32, calls: u32) {
     );
 }
 
-/// Asserts that all calls refuse a key alike and leave the sheet as it was.
+/// Asserts that all calls refuse a key alike and leave the sheet and the buffer as they were.
 pub fn refuses(key: &[u8], number: u32, place: u64) {
     let refusal = Refusal { number, place };
     assert_eq!(
@@ -95,6 +107,21 @@ pub fn refuses(key: &[u8], number: u32, place: u64) {
     let got = archive::compare_quadratic(&sample, key, &[], &[P], &mut sheet);
     assert_eq!(got, of(2));
     assert_eq!(sheet, [7; 12]);
+    for length in [0, 99] {
+        let mut buffer = vec![7; length];
+        assert_eq!(moved(key, &mut buffer), Err(refusal));
+        assert_eq!(buffer, vec![7; length]);
+    }
+}
+
+/// What the move answers, held through the raw call too.
+pub fn moved(key: &[u8], buffer: &mut [u8]) -> Result<usize, Refusal> {
+    let mut other = buffer.to_vec();
+    let answer = archive::moved(key, buffer);
+    let reply = archive::raw_move(key, &mut other);
+    assert_eq!(reply, archive::move_reply(answer));
+    assert_eq!(buffer, other);
+    answer
 }
 
 /// What evaluate answers, held through the raw call too.

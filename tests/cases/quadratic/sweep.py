@@ -1,6 +1,6 @@
 """Drawn keys through both calls over p², and all cases over p² in their order."""
 
-from tests.draw.changes import damaged, nearly, rewritten
+from tests.draw.changes import damaged, in_other_edition, nearly, rewritten
 from tests.draw.keys import drawn_key, encoded
 from tests.draw.numbers import drawn_edges, numbered, spoiled
 from tests.model.words import key_words
@@ -13,14 +13,18 @@ from .shared import Quadratics, doubled, point_of
 
 
 def sweep(cases, draw):
-    """Drawn keys, whole and damaged, and against the same circuit written in another way."""
-    for i in range(12):
+    """Drawn keys of both editions, whole and damaged, and against the same circuit written in another way and in the other
+    edition.
+    """
+    for i in range(16):
         records = drawn_key(draw, 5, 1)
         text, bits = key_words(encoded(records)), records[0][1]
         cases.evaluate(text, *point_of(draw, bits))
         cases.evaluate(text, *drawn_edges(draw, doubled(bits)))
         other = key_words(encoded(rewritten(draw, records)))
         cases.compare(*pair(i % 2, text, other), *point_of(draw, bits), "same")
+        moved = key_words(encoded(in_other_edition(records)))
+        cases.compare(*pair(i % 2, moved, other), *point_of(draw, bits), "same")
         cases.compare(text, key_words(encoded(nearly(draw, records))), *point_of(draw, bits))
         for data in damaged(draw, records):
             rows, columns = (spoiled(draw, side) for side in point_of(draw, bits))

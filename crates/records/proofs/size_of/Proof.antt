@@ -24,8 +24,16 @@ returns-6 : tie.Need-returns-6
 returns-6 c = sym (ap sizeOf (c .match .keys6))
 
 returns-7 : tie.Need-returns-7
-returns-7 c =
+returns-7 c = sym (ap sizeOf (c .match .keys7))
+
+returns-8 : tie.Need-returns-8
+returns-8 c = sym (ap sizeOf (c .match .keys8))
+
+returns-9 : tie.Need-returns-9
+returns-9 c =
     simp (
+      ne-eqb _ _ (c .match .rest .0 .0 .0 .0 .0 .0 .0 .1),
+      ne-eqb _ _ (c .match .rest .0 .0 .0 .0 .0 .0 .1),
       ne-eqb _ _ (c .match .rest .0 .0 .0 .0 .0 .1),
       ne-eqb _ _ (c .match .rest .0 .0 .0 .0 .1),
       ne-eqb _ _ (c .match .rest .0 .0 .0 .1),
@@ -36,4 +44,4 @@ returns-7 c =
 
 pub size-of-spec : {M : Type 1} → statement M
 size-of-spec =
-    tie.close (tie.spec returns returns-2 returns-3 returns-4 returns-5 returns-6 returns-7)
+    tie.close (tie.spec returns returns-2 returns-3 returns-4 returns-5 returns-6 returns-7 returns-8 returns-9)

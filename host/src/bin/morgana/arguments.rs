@@ -38,6 +38,8 @@ pub enum Command {
     },
     /// The key's values in one cell.
     Cell { key: Name, row: u32, column: u32 },
+    /// The key in the other edition, written to a file, also over one that is there where it is forced.
+    Move { key: Name, to: Name, force: bool },
     /// Whether two keys, or those of two folders, are the same.
     Compare {
         old: Name,
@@ -59,6 +61,7 @@ pub fn parse(mut arguments: impl Iterator<Item = OsString>) -> Result<Request, S
         "show" => ("KEY", &["--json"]),
         "evaluate" => ("KEY", &["--point", "--random", "--quadratic", "--json"]),
         "cell" => ("KEY ROW COLUMN", &["--json"]),
+        "move" => ("KEY", &["--to", "--force", "--json"]),
         "compare" => (
             "OLD NEW, or --pairs FILE",
             &[
@@ -94,6 +97,8 @@ struct Given {
     names: Vec<OsString>,
     point: Option<OsString>,
     pairs: Option<OsString>,
+    to: Option<OsString>,
+    force: bool,
     random: bool,
     points: Option<u32>,
     quadratic: bool,
@@ -132,17 +137,28 @@ impl Given {
         value: Option<OsString>,
         arguments: &mut impl Iterator<Item = OsString>,
     ) -> Result<(), String> {
-        if value.is_some() && !["--point", "--points", "--pairs"].contains(&option) {
+        if value.is_some() && !["--point", "--points", "--pairs", "--to"].contains(&option) {
             return Err(format!("{option} takes no value"));
         }
         let mut value = || {
+            let behind = value.is_none();
             let value = value.clone().or_else(|| arguments.next());
-            value.ok_or(format!("{option} needs a value"))
+            let value = value.ok_or(format!("{option} needs a value"))?;
+            // A file is written: an option behind it is more likely than such a name.
+            if option == "--to" && behind && value.as_encoded_bytes().starts_with(b"--") {
+                let name = value.to_string_lossy();
+                return Err(format!(
+                    "--to needs a value; a file of that name is --to={name}"
+                ));
+            }
+            Ok(value)
         };
         let repeated = match option {
             "--point" => self.point.replace(value()?).is_some(),
             "--pairs" => self.pairs.replace(value()?).is_some(),
+            "--to" => self.to.replace(value()?).is_some(),
             "--points" => self.points.replace(points(&value()?)?).is_some(),
+            "--force" => std::mem::replace(&mut self.force, true),
             "--quadratic" => std::mem::replace(&mut self.quadratic, true),
             "--quiet" => std::mem::replace(&mut self.quiet, true),
             "--json" => std::mem::replace(&mut self.json, true),
@@ -191,6 +207,11 @@ impl Given {
                 row: number("ROW", row)?,
                 column: number("COLUMN", column)?,
             },
+            ("move", [key]) => Command::Move {
+                key: name(key),
+                to: self.target()?,
+                force: self.force,
+            },
             ("compare", [old, new]) if self.pairs.is_none() => Command::Compare {
                 old: name(old),
                 new: name(new),
@@ -202,6 +223,15 @@ impl Given {
             },
             _ => return Err(wrong),
         })
+    }
+
+    /// The file that a copy goes to: a file alone, since standard output has the answer.
+    fn target(&self) -> Result<Name, String> {
+        let to = self.to.as_ref().ok_or("move needs --to FILE")?;
+        match to == "-" {
+            true => Err("--to takes a file, and standard output (-) has the answer".to_owned()),
+            false => Ok(Name::from(to)),
+        }
     }
 
     /// The field that coordinates are from.

@@ -118,6 +118,32 @@ fn compare_takes_a_list_of_pairs() {
 }
 
 #[test]
+fn move_takes_a_file_to_write() {
+    let wanted = |to, force| Command::Move {
+        key: key(),
+        to: Name::from(to),
+        force,
+    };
+    assert_eq!(command(&["move", "k", "--to", "f"]), wanted("f", false));
+    assert_eq!(command(&["move", "--to=f", "k"]), wanted("f", false));
+    assert_eq!(command(&["move", "--to", "-f", "k"]), wanted("-f", false));
+    for words in [
+        &["move", "k", "--to", "f", "--force"],
+        &["move", "--force", "--to", "f", "k"],
+    ] {
+        assert_eq!(command(words), wanted("f", true));
+    }
+    let (key, to, force) = (Name::from("-"), Name::from("./-"), false);
+    assert_eq!(
+        command(&["move", "-", "--to", "./-"]),
+        Command::Move { key, to, force }
+    );
+    let wanted = "--to takes a file, and standard output (-) has the answer";
+    assert_eq!(fault(&["move", "k", "--to", "-"]), wanted);
+    assert_eq!(fault(&["move", "-", "--to=-"]), wanted);
+}
+
+#[test]
 fn the_field_is_an_option() {
     let field = Field::Quadratic;
     for words in [
@@ -144,6 +170,7 @@ fn each_command_has_json() {
         &["show", "k"],
         &["evaluate", "k"],
         &["cell", "k", "0", "0"],
+        &["move", "k", "--to", "f"],
         &["compare", "a", "b"],
         &["compare", "--pairs", "l"],
     ] {
@@ -207,6 +234,15 @@ fn what_is_wrong_is_said() {
         (&["check"], "check takes KEY...: 0 given"),
         (&["show", "a", "b"], "show takes KEY: 2 given"),
         (&["cell", "k", "1"], "cell takes KEY ROW COLUMN: 2 given"),
+        (&["move", "--to", "f"], "move takes KEY: 0 given"),
+        (&["move", "k", "l", "--to", "f"], "move takes KEY: 2 given"),
+        (&["move", "k"], "move needs --to FILE"),
+        (&["move", "k", "--to"], "--to needs a value"),
+        (&["move", "k", "--to=f", "--to=g"], "--to stands twice"),
+        (
+            &["move", "k", "--to=f", "--force=yes"],
+            "--force takes no value",
+        ),
         (
             &["compare", "a"],
             "compare takes OLD NEW, or --pairs FILE: 1 given",
@@ -264,6 +300,10 @@ fn an_option_belongs_to_its_command() {
         &["compare", "a", "b", "--random"],
         &["evaluate", "k", "--points", "1"],
         &["evaluate", "k", "--pairs", "l"],
+        &["evaluate", "k", "--to", "f"],
+        &["compare", "a", "b", "--force"],
+        &["move", "k", "--to", "f", "--quiet"],
+        &["move", "k", "--to", "f", "-f"],
         &["check", "k", "--help=x"],
     ] {
         assert!(fault(words).starts_with("there is no option"), "{words:?}");

@@ -1,19 +1,25 @@
-//! The commands that ask about one key.
+//! The commands that are about one key.
 
 use crate::fault::{detail, upto};
 use crate::files::Name;
-use crate::outcome::{About, Evaluation, Failure, Outcome, Refused};
+use crate::outcome::{About, Evaluation, Failure, Moved, Outcome, Refused};
+use crate::records::Edition;
 use crate::show;
-use morgana::{number, Counts, Field, Point, RandomPoints, Refusal, P, SHEET_QUADRATIC};
+use morgana::{number, Counts, Field, Point, RandomPoints, Refusal, KEY_LIMIT, P, SHEET_QUADRATIC};
 use std::iter;
 
-/// The key's length and counts.
+/// The key's length, edition and counts.
 pub fn check(file: &Name) -> Result<Outcome, Failure> {
     let key = file.key()?;
     Ok(match morgana::check(&key) {
-        Ok(counts) => Outcome::Checked(key.len(), counts),
+        Ok(counts) => Outcome::Checked(key.len(), edition(&key), counts),
         Err(refusal) => refused_key(file, &key, refusal),
     })
+}
+
+/// The edition of an accepted key.
+fn edition(key: &[u8]) -> Edition {
+    Edition::of(key).expect("an accepted key begins with a head")
 }
 
 /// The key's records; of a refused key those up to the one at fault, and the refusal.
@@ -106,6 +112,22 @@ pub fn cell(file: &Name, row: u32, column: u32) -> Result<Outcome, Failure> {
             }
         },
     )
+}
+
+/// Writes the key in the other edition to a file; where that is refused, nothing is written.
+pub fn moved(file: &Name, to: &Name, force: bool) -> Result<Outcome, Failure> {
+    let key = file.key()?;
+    let mut buffer = [0; KEY_LIMIT];
+    let length = match morgana::moved(&key, &mut buffer) {
+        Ok(length) => length,
+        Err(refusal) => return Ok(refused_key(file, &key, refusal)),
+    };
+    to.write(&buffer[..length], force)?;
+    Ok(Outcome::Moved(Moved {
+        edition: edition(&key),
+        bytes: key.len(),
+        to_bytes: length,
+    }))
 }
 
 /// A random point for a key.

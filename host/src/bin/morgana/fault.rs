@@ -1,7 +1,7 @@
 //! What is known of a refusal beside its number and its place: which field of which record breaks which rule.
 
-use crate::records::{take, Kind, Record, Untaken};
-use crate::show::bytes;
+use crate::records::{take, Edition, Kind, Record, Untaken};
+use crate::show::{bytes, counted, signed};
 use morgana::{number, Refusal, MOST_BITS, P};
 
 /// Row bits and column bits.
@@ -14,8 +14,8 @@ struct Shape {
 /// What the records before a place say.
 #[derive(Debug, Default)]
 struct Before {
-    /// The head's shape.
-    head: Option<Shape>,
+    /// The head's edition and shape.
+    head: Option<(Edition, Shape)>,
     /// The shape of each array, and whether it is sparse.
     arrays: Vec<(Shape, bool)>,
     /// The place, or where what cannot be taken or the end stands before it.
@@ -31,7 +31,11 @@ impl Before {
                 break;
             };
             match record {
-                Record::Head { rows, columns } => before.head = Some(Shape { rows, columns }),
+                Record::Head {
+                    edition,
+                    rows,
+                    columns,
+                } => before.head = Some((edition, Shape { rows, columns })),
                 Record::Sparse { rows, columns } => {
                     before.arrays.push((Shape { rows, columns }, true))
                 }
@@ -52,11 +56,14 @@ impl Before {
     }
 }
 
-/// Which field of the record at a key's refusal breaks which rule; none where the sentence says it all.
+/// Which field of the record at a key's refusal breaks which rule, or why the key cannot be moved; none where the sentence
+/// says it all.
 pub fn detail(key: &[u8], refusal: Refusal) -> Option<String> {
     let before = Before::of(key, refusal.place as usize);
     match (refusal.number, take(key, before.at)) {
         (number::KEY_TOO_LONG, _) => None,
+        (number::MOVED_TOO_LONG, _) => moved_length(key),
+        (number::FACTOR_NOT_ONE, Ok((record, _))) => other_factor(&before, record),
         (number::BYTES_AFTER_END, _) => Some(bytes(key.len() - before.at)),
         (_, Err(untaken)) => Some(untaken_detail(key, untaken)),
         (number::RECORD_MISPLACED, Ok((record, _))) => misplaced(&before, record),
@@ -93,16 +100,19 @@ fn untaken_detail(key: &[u8], untaken: Untaken) -> String {
 /// Why a record is not allowed at its point (4).
 fn misplaced(before: &Before, record: Record) -> Option<String> {
     let name = with_article(record.kind());
-    if before.head.is_none() {
+    let Some((edition, _)) = before.head else {
         return Some(format!(
             "the first record is {name}, and a key begins with a head"
         ));
-    }
+    };
     let inside = before.arrays.len().wrapping_sub(1);
-    Some(match (record, before.arrays.last()) {
-        (Record::Head { .. }, _) => "a second head".to_owned(),
+    Some(match (record.kind(), before.arrays.last()) {
+        (Kind::Head(second), _) => format!("a second head, of {second}"),
         (_, None) => format!("{name} before any array"),
         (_, Some((_, true))) => format!("{name} in array {inside}, which is sparse"),
+        (Kind::Call(_), Some((_, false))) => {
+            format!("{name} in array {inside}, and the key is of {edition}")
+        }
         (_, Some((_, false))) => format!("{name} in array {inside}, which is recursive"),
     })
 }
@@ -110,12 +120,12 @@ fn misplaced(before: &Before, record: Record) -> Option<String> {
 /// The bits that are too many (5).
 fn bits(before: &Before, record: Record) -> Option<String> {
     match record {
-        Record::Head { rows, columns } => {
+        Record::Head { rows, columns, .. } => {
             let (word, bits) = first_over(rows, columns, MOST_BITS, MOST_BITS)?;
             Some(format!("{word} bits {bits}, at most {MOST_BITS}"))
         }
         Record::Sparse { rows, columns } | Record::Recursive { rows, columns } => {
-            let head = before.head?;
+            let (_, head) = before.head?;
             let (most_rows, most_columns) = (u32::from(head.rows), u32::from(head.columns));
             let (word, bits) = first_over(rows, columns, most_rows, most_columns)?;
             let most = if word == "row" {
@@ -162,13 +172,17 @@ fn address(before: &Before, record: Record) -> Option<String> {
     ))
 }
 
-/// The value that is p or more (8).
+/// The value or the factor that is p or more (8).
 fn value(before: &Before, record: Record) -> Option<String> {
     let (array, _) = before.open()?;
-    let Record::Cell { a, b, c, .. } = record else {
-        return None;
+    let values = match record {
+        Record::Cell { a, b, c, .. } => vec![("A", a), ("B", b), ("C", c)],
+        Record::Call {
+            factor: Some(factor),
+            ..
+        } => vec![("the factor", factor)],
+        _ => return None,
     };
-    let values = [("A", a), ("B", b), ("C", c)];
     let (name, value) = values.into_iter().find(|(_, value)| *value >= P)?;
     Some(format!(
         "{name} is {value} in array {array}, at most {}",
@@ -179,7 +193,10 @@ fn value(before: &Before, record: Record) -> Option<String> {
 /// What is wrong with a call (9, 10, 11).
 fn call(before: &Before, record: Record, broken: u32) -> Option<String> {
     let (array, shape) = before.open()?;
-    let Record::Call { id, row, column } = record else {
+    let Record::Call {
+        id, row, column, ..
+    } = record
+    else {
         return None;
     };
     if broken == number::CALLED_NOT_EARLIER {
@@ -219,10 +236,36 @@ fn call(before: &Before, record: Record, broken: u32) -> Option<String> {
 /// How the last array's shape is not the head's (12).
 fn last_shape(before: &Before) -> Option<String> {
     let (array, shape) = before.open()?;
-    let head = before.head?;
+    let (_, head) = before.head?;
     Some(format!(
         "array {array} has row bits {} and column bits {}, the head {} and {}",
         shape.rows, shape.columns, head.rows, head.columns
+    ))
+}
+
+/// The factor that edition 1 cannot have (55).
+fn other_factor(before: &Before, record: Record) -> Option<String> {
+    let (array, _) = before.open()?;
+    let Record::Call { id, factor, .. } = record else {
+        return None;
+    };
+    let factor = signed(factor?);
+    Some(format!(
+        "array {id} is called in array {array} with factor {factor}, and in {} every factor is 1",
+        Edition::One
+    ))
+}
+
+/// Why the moved key is too long (56).
+fn moved_length(key: &[u8]) -> Option<String> {
+    let counts = morgana::check(key).ok()?;
+    let more = Kind::Call(Edition::Two).length() - Kind::Call(Edition::One).length();
+    Some(format!(
+        "the key has {} and {}, each {} longer in {}",
+        bytes(key.len()),
+        counted(counts.calls as usize, "call"),
+        bytes(more),
+        Edition::Two
     ))
 }
 
@@ -234,11 +277,12 @@ pub fn upto(last: u64) -> String {
     }
 }
 
-/// A kind's name with its article.
+/// A kind's name with its article; a call's with its edition, which it has its length by.
 fn with_article(kind: Kind) -> String {
     match kind {
         Kind::End => "the end".to_owned(),
         Kind::Sparse | Kind::Recursive => format!("the opening of a {} array", kind.name()),
-        Kind::Head | Kind::Cell | Kind::Call => format!("a {}", kind.name()),
+        Kind::Call(edition) => format!("a call of {edition}"),
+        Kind::Head(_) | Kind::Cell => format!("a {}", kind.name()),
     }
 }

@@ -1,8 +1,9 @@
-//! The files that the program reads.
+//! The files that the program reads, and those that it writes.
 
 use crate::closed;
 use crate::outcome::Failure;
 use crate::points;
+use crate::whole;
 use morgana::{Field, Point, KEY_LIMIT};
 use std::ffi::{OsStr, OsString};
 use std::fmt::{Display, Formatter};
@@ -100,6 +101,12 @@ impl Name {
         let lines = text.split(|byte| *byte == b'\n').zip(1..);
         let some = lines.filter(|(line, _)| !line.trim_ascii().is_empty());
         Ok(some.map(|(line, number)| (number, line.to_vec())).collect())
+    }
+
+    /// Writes the file, whole or not at all, and over one that is there only where that is asked for.
+    pub fn write(&self, bytes: &[u8], force: bool) -> Result<(), Failure> {
+        whole::write(Path::new(&self.path), bytes, force)
+            .map_err(|error| Failure::Write(self.clone(), error))
     }
 
     /// The failure that a line of the file is.

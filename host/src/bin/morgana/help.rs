@@ -5,10 +5,10 @@ pub const VERSION: &str = concat!("morgana ", env!("CARGO_PKG_VERSION"), "\n");
 
 /// What the program does, for people.
 pub const HELP: &str = "\
-morgana: checks, shows, evaluates and compares Morgana circuit keys
+morgana: checks, shows, evaluates, compares and moves Morgana circuit keys
 
-A KEY is a file that holds one key, or - for standard input. Values are modulo
-p = 2147483647.
+A KEY is a file that holds one key of either edition, or - for standard input.
+Values are modulo p = 2147483647.
 
   morgana check KEY...
       Prints the key's length, its counts, its row bits and its column bits:
@@ -17,7 +17,9 @@ p = 2147483647.
 
   morgana show KEY
       Prints each record on a line: its offset in the file, its kind and its
-      fields. Of a refused key it prints the records up to the one at fault,
+      fields. The head has the key's edition; a factor, which the calls of
+      edition 2 have, is printed as a negative number too where that is
+      shorter. Of a refused key it prints the records up to the one at fault,
       which is marked with >, and then the refusal; a key over 65536 bytes has
       no such record.
 
@@ -31,14 +33,21 @@ p = 2147483647.
       Prints A, B and C at one row and column of the key's matrices, both
       counted from 0.
 
+  morgana move KEY --to FILE [--force]
+      Writes the key to FILE in the edition that it is not of, 1 or 2: the same
+      circuit. Calls get factor 1 in edition 2, and must have it to be moved
+      back; there and back gives the same bytes. Prints both editions and
+      lengths. A file that is there is replaced with --force alone. FILE is
+      written whole or not at all, and not at all where the move is refused.
+
   morgana compare OLD NEW [--points N | --point FILE] [--quadratic] [--quiet]
   morgana compare --pairs FILE ...
-      Compares two keys of one shape at random points: as many as bring the
-      probability that keys that differ would pass below 2^-80 (at most 4), or
-      N of them (1 to 1000000), or at the points in FILE, for which no bound is
-      given. Prints `same` or `different`, what that rests on, and then the
-      points; for `different` the first point that shows it. With --quiet no
-      points are printed.
+      Compares two keys of one shape, also of two editions, at random points:
+      as many as bring the probability that keys that differ would pass below
+      2^-80 (at most 4), or N of them (1 to 1000000), or at the points in FILE,
+      for which no bound is given. Prints `same` or `different`, what that
+      rests on, and then the points; for `different` the first point that shows
+      it. With --quiet no points are printed.
       Where OLD and NEW are folders, all files of the same path below them are
       compared. One that is no key is refused; one that only one folder has
       fails, and so does a link to a folder. With --pairs the files on each
@@ -83,13 +92,15 @@ Refusals
   What the library refuses is answered with a line that begins
       refused N at P: REASON
   and goes on with what is known: the field that breaks the rule, the numbers
-  given and wanted, the file. P is an offset in the key where N is 1 to 13, the
-  count received for 21 and 22, a number's index (rows first) for 23, 0 for the
-  row and 1 for the column for 24, and 0 for 35.
+  given and wanted, the file. P is an offset in the key where N is 1 to 13 or
+  55, the count received for 21 and 22, a number's index (rows first) for 23, 0
+  for the row and 1 for the column for 24, 0 for 35, and the moved key's length
+  for 56.
 
 Exit status
-  0 accepted or same, 1 different, 2 refused, 3 wrong usage, a file that cannot
-  be read or output that cannot be written; of several answers the greatest.
+  0 accepted, moved or same, 1 different, 2 refused, 3 wrong usage, a file that
+  cannot be read or written or output that cannot be written; of several
+  answers the greatest.
   Answers and refusals go to standard output, all else to standard error; of
   several keys or pairs one that fails has a line on standard output, which
   begins with `failed`. Where the reader of the output closes it early, morgana

@@ -3,7 +3,7 @@
 use crate::outcome::{About, Answer, Evaluation, Files, Outcome, Refused, Source, Tried, Verdict};
 use crate::output::Pieces;
 use crate::points::field_name;
-use crate::records::{Record, Untaken};
+use crate::records::{Edition, Record, Untaken};
 use crate::show::{Entry, Line};
 use morgana::{Counts, Field, Point, Values};
 use std::iter;
@@ -13,7 +13,9 @@ pub fn json(answer: &Answer) -> Pieces<'_> {
     let open = || Object::of(answer);
     let lines = match &answer.outcome {
         Outcome::Compared(verdict, used) => return compared(open(), verdict, used),
-        Outcome::Checked(length, counts) => checked(open().status("accepted"), *length, counts),
+        Outcome::Checked(length, edition, counts) => {
+            checked(open().status("accepted"), *length, *edition, counts)
+        }
         Outcome::Shown(lines) => shown(open, lines) + &open().status("accepted").line(),
         Outcome::Evaluated(field, evaluation) => {
             evaluated(open().status("accepted"), *field, evaluation)
@@ -29,6 +31,13 @@ pub fn json(answer: &Answer) -> Pieces<'_> {
             ];
             open().status("accepted").numbers(&numbers).line()
         }
+        Outcome::Moved(moved) => open()
+            .status("accepted")
+            .number("bytes", moved.bytes)
+            .number("edition", moved.edition.number())
+            .number("to_bytes", moved.to_bytes)
+            .number("to_edition", moved.edition.other().number())
+            .line(),
         Outcome::Refused(lines, refused) => {
             shown(open, lines) + &refusal(open().status("refused"), refused)
         }
@@ -50,6 +59,7 @@ impl Object {
         match &answer.files {
             Files::One(file) => object.string("file", &file.text()),
             Files::Two(old, new) => object.string("old", &old.text()).string("new", &new.text()),
+            Files::Copy(file, to) => object.string("file", &file.text()).string("to", &to.text()),
         }
     }
 
@@ -110,7 +120,7 @@ fn list(values: impl IntoIterator<Item = impl ToString>) -> String {
 }
 
 /// The line of an accepted key.
-fn checked(object: Object, length: usize, counts: &Counts) -> String {
+fn checked(object: Object, length: usize, edition: Edition, counts: &Counts) -> String {
     object
         .number("bytes", length)
         .number("arrays", counts.arrays)
@@ -118,6 +128,7 @@ fn checked(object: Object, length: usize, counts: &Counts) -> String {
         .number("calls", counts.calls)
         .number("rows", counts.rows)
         .number("columns", counts.columns)
+        .number("edition", edition.number())
         .line()
 }
 
@@ -150,9 +161,16 @@ fn record(object: Object, line: &Line) -> String {
 /// The fields of a record with their names.
 fn fields(record: Record) -> Vec<(&'static str, u32)> {
     match record {
-        Record::Head { rows, columns }
-        | Record::Sparse { rows, columns }
-        | Record::Recursive { rows, columns } => {
+        Record::Head {
+            edition,
+            rows,
+            columns,
+        } => vec![
+            ("edition", edition.number()),
+            ("row_bits", rows.into()),
+            ("column_bits", columns.into()),
+        ],
+        Record::Sparse { rows, columns } | Record::Recursive { rows, columns } => {
             vec![("row_bits", rows.into()), ("column_bits", columns.into())]
         }
         Record::Cell {
@@ -170,11 +188,20 @@ fn fields(record: Record) -> Vec<(&'static str, u32)> {
                 ("c", c),
             ]
         }
-        Record::Call { id, row, column } => vec![
-            ("id", id.into()),
-            ("row_position", row),
-            ("column_position", column),
-        ],
+        Record::Call {
+            id,
+            row,
+            column,
+            factor,
+        } => {
+            let fields = vec![
+                ("id", id.into()),
+                ("row_position", row),
+                ("column_position", column),
+            ];
+            let factor = factor.map(|factor| ("factor", factor));
+            fields.into_iter().chain(factor).collect()
+        }
         Record::End => vec![],
     }
 }

@@ -1,4 +1,4 @@
-//! morgana: checks, shows, evaluates and compares circuit keys in files.
+//! morgana: checks, shows, evaluates, compares and moves circuit keys in files.
 #![deny(unsafe_code)]
 
 mod arguments;
@@ -19,6 +19,7 @@ mod records;
 mod show;
 mod text;
 mod value;
+mod whole;
 
 use arguments::{Command, Request};
 use compare::Manner;
@@ -58,6 +59,10 @@ fn run(request: &Request) -> Result<Status, Failure> {
         }
         Command::Cell { key, row, column } => {
             output.only("cell", one(key), commands::cell(key, *row, *column))
+        }
+        Command::Move { key, to, force } => {
+            let files = Files::Copy(key.clone(), to.clone());
+            output.only("move", files, commands::moved(key, to, *force))
         }
         Command::Compare { old, new, manner } => compare(old, new, manner, &mut output),
         Command::ComparePairs { list, manner } => {

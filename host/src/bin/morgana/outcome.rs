@@ -1,6 +1,7 @@
 //! What the program answers, and how it ends.
 
 use crate::files::Name;
+use crate::records::Edition;
 use crate::show::Line;
 use morgana::{Counts, Field, Likelihood, Point, Refusal, Values};
 use std::fmt::{Display, Formatter};
@@ -15,7 +16,7 @@ pub enum Status {
     Different = 1,
     /// The library refuses.
     Refused = 2,
-    /// Wrong usage, a file that cannot be read, or output that cannot be written.
+    /// Wrong usage, a file that cannot be read or written, or output that cannot be written.
     Failed = 3,
 }
 
@@ -37,13 +38,15 @@ pub enum Files {
     One(Name),
     /// An old key and a new one.
     Two(Name, Name),
+    /// A key, and the file that its copy goes to.
+    Copy(Name, Name),
 }
 
 /// What there is to say of some files.
 #[derive(Debug)]
 pub enum Outcome {
-    /// The key's length and counts.
-    Checked(usize, Counts),
+    /// The key's length, edition and counts.
+    Checked(usize, Edition, Counts),
     /// The key's records.
     Shown(Vec<Line>),
     /// The key's values at a point.
@@ -52,6 +55,8 @@ pub enum Outcome {
     Celled(u32, u32, Values),
     /// Whether two keys are the same, and the points behind that.
     Compared(Verdict, Vec<Point>),
+    /// A key's copy in the other edition is written.
+    Moved(Moved),
     /// The refusal of the library, and of `show` the records up to the one at fault.
     Refused(Vec<Line>, Refused),
     /// Something that kept the program from an answer.
@@ -65,6 +70,17 @@ pub struct Evaluation {
     pub point: Point,
     /// Every array's numbers: those of A, then of B, then of C.
     pub arrays: Vec<Vec<u32>>,
+}
+
+/// A key that was moved.
+#[derive(Debug)]
+pub struct Moved {
+    /// Its edition, and so that its copy is of the other.
+    pub edition: Edition,
+    /// Its length.
+    pub bytes: usize,
+    /// Its copy's length.
+    pub to_bytes: usize,
 }
 
 /// Whether two keys are the same.
@@ -133,6 +149,8 @@ pub enum Failure {
     Usage(String),
     /// A file cannot be read.
     File(Name, io::Error),
+    /// A file cannot be written.
+    Write(Name, io::Error),
     /// A line of a file is not what it has to be.
     Line(Name, usize, String),
     /// No random point can be drawn.
@@ -178,6 +196,7 @@ impl Display for Failure {
                 write!(out, "{message}\nmorgana --help says how it is used")
             }
             Failure::File(name, error) => write!(out, "cannot read {name}: {error}"),
+            Failure::Write(name, error) => write!(out, "cannot write {name}: {error}"),
             Failure::Line(name, line, message) => write!(out, "{name} line {line}: {message}"),
             Failure::Random(error) => write!(out, "cannot draw a random point: {error}"),
             Failure::NoPair(message) => write!(out, "{message}"),

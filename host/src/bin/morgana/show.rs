@@ -1,7 +1,7 @@
 //! The records of a key as lines to read, and where a refusal marks one.
 
 use crate::records::{take, Kind, Record, Untaken};
-use morgana::{number, Refusal};
+use morgana::{number, Refusal, P};
 
 /// A line of `show`.
 #[derive(Debug, Clone, Copy, PartialEq, Eq)]
@@ -117,10 +117,16 @@ impl Line {
 
 /// The fields of a record.
 fn fields(record: Record) -> String {
+    let bits = |rows, columns| format!("row bits {rows}, column bits {columns}");
     match record {
-        Record::Head { rows, columns }
-        | Record::Sparse { rows, columns }
-        | Record::Recursive { rows, columns } => format!("row bits {rows}, column bits {columns}"),
+        Record::Head {
+            edition,
+            rows,
+            columns,
+        } => format!("{edition}, {}", bits(rows, columns)),
+        Record::Sparse { rows, columns } | Record::Recursive { rows, columns } => {
+            bits(rows, columns)
+        }
         Record::Cell {
             row,
             column,
@@ -128,18 +134,42 @@ fn fields(record: Record) -> String {
             b,
             c,
         } => format!("row {row}, column {column}, A {a}, B {b}, C {c}"),
-        Record::Call { id, row, column } => {
-            format!("array {id} at row position {row}, column position {column}")
+        Record::Call {
+            id,
+            row,
+            column,
+            factor,
+        } => {
+            let call = format!("array {id} at row position {row}, column position {column}");
+            match factor {
+                Some(factor) => format!("{call}, factor {}", signed(factor)),
+                None => call,
+            }
         }
         Record::End => String::new(),
     }
 }
 
+/// A factor, and as a negative number too where that is shorter.
+pub fn signed(factor: u32) -> String {
+    let negative = format!("-{}", P.saturating_sub(factor));
+    let text = factor.to_string();
+    match factor < P && negative.len() < text.len() {
+        true => format!("{text} = {negative}"),
+        false => text,
+    }
+}
+
 /// So many bytes, in words.
 pub fn bytes(count: usize) -> String {
+    counted(count, "byte")
+}
+
+/// So many of something, in words.
+pub fn counted(count: usize, noun: &str) -> String {
     match count {
-        1 => "1 byte".to_owned(),
-        _ => format!("{count} bytes"),
+        1 => format!("1 {noun}"),
+        _ => format!("{count} {noun}s"),
     }
 }
 
@@ -159,7 +189,7 @@ mod tests {
     #[test]
     fn the_end_is_the_last_line() {
         let lines = [
-            "      0  head       row bits 1, column bits 0\n",
+            "      0  head       edition 1, row bits 1, column bits 0\n",
             "      3  sparse     array 0, row bits 0, column bits 0\n",
             "      6  recursive  array 1, row bits 1, column bits 0\n",
             "      9  end\n",
@@ -167,6 +197,43 @@ mod tests {
         ];
         assert_eq!(listing(&KEY[..10]), lines[..4]);
         assert_eq!(listing(&KEY), lines);
+    }
+
+    #[test]
+    fn a_factor_is_negative_where_that_is_shorter() {
+        for (factor, wanted) in [
+            (0, "0"),
+            (1, "1"),
+            (9, "9"),
+            (1_073_741_823, "1073741823"),
+            (2_047_483_647, "2047483647"),
+            (2_047_483_648, "2047483648 = -99999999"),
+            (P - 10, "2147483637 = -10"),
+            (P - 1, "2147483646 = -1"),
+            (P, "2147483647"),
+            (u32::MAX, "4294967295"),
+        ] {
+            assert_eq!(signed(factor), wanted);
+        }
+    }
+
+    #[test]
+    fn calls_of_edition_2_have_their_factor() {
+        let mut key = vec![7, 0, 0, 2, 0, 0, 3, 0, 0];
+        for factor in [5, P - 1] {
+            key.extend([8, 0, 0, 0, 0, 0, 0, 0, 0, 0, 0]);
+            key.extend(factor.to_le_bytes());
+        }
+        key.push(6);
+        let lines = [
+            "      0  head       edition 2, row bits 0, column bits 0\n",
+            "      3  sparse     array 0, row bits 0, column bits 0\n",
+            "      6  recursive  array 1, row bits 0, column bits 0\n",
+            "      9  call       array 0 at row position 0, column position 0, factor 5\n",
+            "     24  call       array 0 at row position 0, column position 0, factor 2147483646 = -1\n",
+            "     39  end\n",
+        ];
+        assert_eq!(listing(&key), lines);
     }
 
     #[test]

@@ -1,24 +1,26 @@
 //! Answers as lines for people.
 
-use crate::outcome::{About, Answer, Evaluation, Files, Outcome, Source, Tried, Verdict};
+use crate::outcome::{About, Answer, Evaluation, Files, Moved, Outcome, Source, Tried, Verdict};
 use crate::output::Pieces;
 use crate::points;
-use crate::show::Line;
+use crate::show::{bytes, Line};
 use morgana::{Counts, Field, Values};
 use std::iter;
 
-/// The lines of an answer, in pieces; one of several is a line that names its files.
+/// The lines of an answer, in pieces; one of several is a line that names its files, and that of a copy names the copy's.
 pub fn text(answer: &Answer, several: bool) -> Pieces<'_> {
     let files = match (&answer.files, several) {
+        (Files::Copy(_, to), _) => format!("; {to}"),
         (_, false) => String::new(),
         (Files::One(file), true) => format!("; {file}"),
         (Files::Two(old, new), true) => format!(" {old} {new}"),
     };
     let lines = match &answer.outcome {
-        Outcome::Checked(length, counts) => format!("{}{files}\n", checked(*length, counts)),
+        Outcome::Checked(length, _, counts) => format!("{}{files}\n", checked(*length, counts)),
         Outcome::Shown(lines) => shown(lines),
         Outcome::Evaluated(_, evaluation) => evaluated(evaluation),
         Outcome::Celled(_, _, Values { a, b, c }) => format!("A {a} B {b} C {c}\n"),
+        Outcome::Moved(moved) => format!("{}{files}\n", moved_line(moved)),
         Outcome::Compared(verdict, _) if several => {
             format!("{}{files}; {}\n", word(verdict), in_short(verdict))
         }
@@ -34,7 +36,7 @@ pub fn text(answer: &Answer, several: bool) -> Pieces<'_> {
             _ => format!("{}{refused}\n", shown(lines)),
         },
         Outcome::Failed(failure) => match answer.files {
-            Files::One(_) => format!("failed; {failure}\n"),
+            Files::One(_) | Files::Copy(..) => format!("failed; {failure}\n"),
             Files::Two(..) => format!("failed{files}; {failure}\n"),
         },
     };
@@ -44,7 +46,7 @@ pub fn text(answer: &Answer, several: bool) -> Pieces<'_> {
 /// The keys that an answer is about.
 fn keys(files: &Files) -> String {
     match files {
-        Files::One(file) => format!("key {file}"),
+        Files::One(file) | Files::Copy(file, _) => format!("key {file}"),
         Files::Two(old, new) => format!("keys {old} {new}"),
     }
 }
@@ -66,6 +68,17 @@ fn checked(length: usize, counts: &Counts) -> String {
     } = counts;
     format!(
         "key {length} bytes arrays {arrays} cells {cells} calls {calls} rows {rows} columns {columns}"
+    )
+}
+
+/// The line of a moved key, up to the copy's file.
+fn moved_line(moved: &Moved) -> String {
+    format!(
+        "moved from {}, {}, to {}, {}",
+        moved.edition,
+        bytes(moved.bytes),
+        moved.edition.other(),
+        bytes(moved.to_bytes)
     )
 }
 

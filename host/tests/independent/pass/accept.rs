@@ -1,12 +1,22 @@
 //! Accepting a key: the counts alone, without the refusal.
 
-use super::{id, word, Shapes, P};
+use super::call::{call, factor, id, place, PLAIN, SCALED};
+use super::{word, Shapes, P};
 use crate::independent::key::{LONGEST, MOST_ARRAYS, MOST_BITS};
 use crate::independent::Counts;
 
 /// The counts of an accepted key, with the shapes of its arrays; none for every other key.
 pub fn accept(key: &[u8], shapes: &mut Shapes) -> Option<Counts> {
-    let [1, rows, columns, rest @ ..] = key else {
+    match key.first()? {
+        1 => accept_edition::<PLAIN>(key, shapes),
+        7 => accept_edition::<SCALED>(key, shapes),
+        _ => None,
+    }
+}
+
+/// The same of a key whose calls have N bytes.
+fn accept_edition<const N: usize>(key: &[u8], shapes: &mut Shapes) -> Option<Counts> {
+    let [_, rows, columns, rest @ ..] = key else {
         return None;
     };
     let (rows, columns) = (*rows, *columns);
@@ -25,8 +35,8 @@ pub fn accept(key: &[u8], shapes: &mut Shapes) -> Option<Counts> {
             cells += (behind.len() - behind_cells.len()) / 21;
             behind_cells
         } else {
-            let behind_calls = skip_calls(behind, shape, &shapes[..arrays]);
-            calls += (behind.len() - behind_calls.len()) / 11;
+            let behind_calls = skip_calls::<N>(behind, shape, &shapes[..arrays]);
+            calls += (behind.len() - behind_calls.len()) / N;
             behind_calls
         };
         shapes[arrays] = shape;
@@ -55,17 +65,23 @@ fn skip_cells(mut rest: &[u8], shape: [u8; 2]) -> &[u8] {
     rest
 }
 
-/// The bytes behind the calls that an array of this shape behind the earlier ones may hold.
-fn skip_calls<'a>(mut rest: &'a [u8], shape: [u8; 2], earlier: &[[u8; 2]]) -> &'a [u8] {
-    while let Some((record, behind)) = rest.split_first_chunk::<11>() {
+/// The bytes behind the calls of N bytes that an array of this shape behind the earlier ones may hold.
+fn skip_calls<'a, const N: usize>(
+    mut rest: &'a [u8],
+    shape: [u8; 2],
+    earlier: &[[u8; 2]],
+) -> &'a [u8] {
+    while let Some((record, behind)) = call::<N>(rest) {
         let Some(called) = earlier.get(id(record)) else {
             break;
         };
+        let [row, column] = place(record);
         let fits = called[0] <= shape[0]
             && called[1] <= shape[1]
-            && word(record, 3) >> (shape[0] - called[0]) == 0
-            && word(record, 7) >> (shape[1] - called[1]) == 0;
-        if record[0] != 5 || !fits {
+            && row >> (shape[0] - called[0]) == 0
+            && column >> (shape[1] - called[1]) == 0
+            && factor(record).is_none_or(|factor| factor < P);
+        if !fits {
             break;
         }
         rest = behind;

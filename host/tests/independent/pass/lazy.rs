@@ -17,6 +17,9 @@ pub trait Lazy: Field {
     /// 1 less the element.
     fn less_than_one(self) -> Self;
 
+    /// The product of an element and a number below p.
+    fn scaled(self, factor: u32) -> Self;
+
     /// Adds the value of a cell times the cell's weight.
     fn add_value(total: &mut Self::Sum, weight: Self, value: u32);
 
@@ -39,6 +42,11 @@ impl Lazy for Fp {
 
     fn less_than_one(self) -> Fp {
         less(1, self)
+    }
+
+    #[inline(always)]
+    fn scaled(self, factor: u32) -> Fp {
+        self.product(factor)
     }
 
     /// The product is folded below 2^32, and a key has fewer than 2^16 records, so the sum stays below 2^48.
@@ -70,6 +78,11 @@ impl Lazy for Quadratic {
 
     fn less_than_one(self) -> Quadratic {
         [less(1, self[0]), less(0, self[1])]
+    }
+
+    #[inline(always)]
+    fn scaled(self, factor: u32) -> Quadratic {
+        self.map(|part| part.product(factor))
     }
 
     #[inline(always)]

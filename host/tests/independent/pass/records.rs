@@ -1,11 +1,26 @@
 //! The pass over the records of an accepted key.
 
-use super::{id, word, Lazy, Shapes, Weights};
+use super::call::{call, factor, id, place, PLAIN, SCALED};
+use super::{word, Lazy, Shapes, Weights};
 use crate::independent::field::Field;
 
 /// Writes every array's values of an accepted key at a point that fits it, and answers the last
 /// array's.
 pub fn write<W: Weights>(
+    key: &[u8],
+    shapes: &Shapes,
+    weights: &W,
+    sheet: &mut [u32],
+) -> [W::Field; 3] {
+    if key[0] == 1 {
+        write_edition::<W, PLAIN>(key, shapes, weights, sheet)
+    } else {
+        write_edition::<W, SCALED>(key, shapes, weights, sheet)
+    }
+}
+
+/// The same of a key whose calls have N bytes.
+fn write_edition<W: Weights, const N: usize>(
     key: &[u8],
     shapes: &Shapes,
     weights: &W,
@@ -19,7 +34,7 @@ pub fn write<W: Weights>(
         (values, rest) = if *kind == 2 {
             add_cells(behind, to, weights)
         } else {
-            add_calls(behind, to, &shapes[..arrays], weights, sheet)
+            add_calls::<W, N>(behind, to, &shapes[..arrays], weights, sheet)
         };
         put(sheet, arrays, values);
         arrays += 1;
@@ -84,7 +99,7 @@ fn values_of_cell(record: &[u8; 21]) -> [u32; 3] {
 
 /// The values of a recursive array, and the bytes behind its calls; two calls of arrays of one
 /// shape are weighed at a time.
-fn add_calls<'a, W: Weights>(
+fn add_calls<'a, W: Weights, const N: usize>(
     mut rest: &'a [u8],
     to: [u8; 2],
     earlier: &[[u8; 2]],
@@ -92,18 +107,18 @@ fn add_calls<'a, W: Weights>(
     sheet: &[u32],
 ) -> ([W::Field; 3], &'a [u8]) {
     let mut totals = Default::default();
-    while let Some((one, behind)) = call(rest) {
+    while let Some((one, behind)) = call::<N>(rest) {
         let called = earlier[id(one)];
-        match call(behind) {
+        match call::<N>(behind) {
             Some((other, behind)) if earlier[id(other)] == called => {
                 let both = [one, other];
-                let weights = weights.weigh(both.map(place_of_call), called, to);
+                let weights = scaled(weights.weigh(both.map(place), called, to), both);
                 let values = both.map(|one| values_of_array(sheet, id(one)));
                 add_elements(&mut totals, weights, values);
                 rest = behind;
             }
             _ => {
-                let weights = weights.weigh([place_of_call(one)], called, to);
+                let weights = scaled(weights.weigh([place(one)], called, to), [one]);
                 let values = values_of_array(sheet, id(one));
                 add_elements(&mut totals, weights, [values]);
                 rest = behind;
@@ -111,6 +126,18 @@ fn add_calls<'a, W: Weights>(
         }
     }
     (totals.map(W::Field::reduce), rest)
+}
+
+/// The weights of calls times their factors, where they have any.
+#[inline(always)]
+fn scaled<F: Lazy, const N: usize, const COUNT: usize>(
+    weights: [F; COUNT],
+    calls: [&[u8; N]; COUNT],
+) -> [F; COUNT] {
+    std::array::from_fn(|i| match factor(calls[i]) {
+        Some(factor) => weights[i].scaled(factor),
+        None => weights[i],
+    })
 }
 
 /// Adds the values of called arrays times the calls' weights.
@@ -125,19 +152,6 @@ fn add_elements<F: Lazy, const N: usize>(
             F::add_element(total, weight, value);
         }
     }
-}
-
-/// The call at the beginning, and the bytes behind it.
-#[inline(always)]
-fn call(rest: &[u8]) -> Option<(&[u8; 11], &[u8])> {
-    rest.split_first_chunk()
-        .filter(|(record, _)| record[0] == 5)
-}
-
-/// The row position and the column position of a call.
-#[inline(always)]
-fn place_of_call(record: &[u8; 11]) -> [u32; 2] {
-    [word(record, 3), word(record, 7)]
 }
 
 /// The values of an array on the sheet.

@@ -1,13 +1,15 @@
 -- `evaluate::array::calls` meets its contract: one call a turn.
 use Prim.Native.Nat.{_+_, _-_, _≤_, _<_}
+use mathlib.Core.Bool.{false}
+use mathlib.Core.Path.{_≡_}
 use native.Mathlib.Omega.{arith}
 use denote.Ref.{now}
 use lib.ListN.{length, getD}
 use Rattle.field.specs.Scalars.{prime}
 use Rattle.weights.specs.Side.{prepared}
 use Rattle.weights.specs.Words.{singles}
-use Rattle.key.specs.KeyArrays.{keyArrays}
-use Rattle.key.proofs.IndexedKey.{accepts, entries-run, opening-inside}
+use Rattle.key.specs.KeyArrays.{keyArrays, keyScaled}
+use Rattle.key.proofs.IndexedKey.{accepts, entries-run, entries-written, opening-inside}
 use Rattle.evaluation.specs.Inner.{ReachedIn}
 use Rattle.evaluation.proofs.NextEntryAdded.{call-room, call-called, call-added}
 use Rattle.evaluation.proofs.PreparedSides.{rows-further, columns-further}
@@ -37,8 +39,11 @@ module _ (a : tie.Start Inv-loop μ-loop) where
       (getD (now (a .args .starts)) (a .args .i) 0 + 3 ≤ length (now (a .args .key))) × (length (now (a .args .key)) ≤ 65536)
   offset-small = opening-inside _ _ (a .pre .0) (a .args .i) inside
 
+  edition : keyScaled (now (a .args .key)) ≡ false
+  edition = a .pre .1 .1 .1 .0
+
   far : ReachedIn singles (keyArrays (now (a .args .key))) (a .args .i) (a .args .reached) (now (a .args .rowwise)) (now (a .args .columnwise))
-  far = a .pre .1 .1 .1 .1 .0
+  far = a .pre .1 .1 .1 .1 .1 .0
 
 behind-requires : tie.Need-behind-requires Inv-loop μ-loop
 behind-requires c κs = let a = c .before .before .before .before .before in (a .pre .0, (a .pre .1 .0, a .pre .1 .1 .0))
@@ -61,7 +66,8 @@ loop-holds c =
     let a = begun c in (
       rw (c .before .behind .ensures)
           (calls-begun prime _ _ _ _ _ _ _ (entries-run _ _ (a .pre .0) (a .args .i) (inside a))
-          (accepts _ _ (a .pre .0) .well-formed .arrays-fit (a .args .i) (inside a) .entries-fit) (a .pre .1 .1 .1 .0)),
+          (accepts _ _ (a .pre .0) .well-formed .arrays-fit (a .args .i) (inside a) .entries-fit)
+          (entries-written _ _ (a .pre .0) (a .args .i) (inside a)) (a .pre .1 .1 .1 .1 .0)),
       record { a-bound = omega arith; b-bound = omega arith; c-bound = omega arith },
     )
 
@@ -73,7 +79,7 @@ room : (c : tie.In-loop Inv-loop μ-loop) → c .before .loop .at + 11 ≤ lengt
 room c =
     let a = start c in
     call-room prime _ _ _ _ _ _ (a .args .reached) (rows-further singles (far a))
-    (columns-further singles (far a)) _ _ (c .loop-test .taken) (c .before .loop .inv .0)
+    (columns-further singles (far a)) _ _ (c .loop-test .taken) (c .before .loop .inv .0) false (edition a)
 
 add-call : tie.Need-add-call Inv-loop μ-loop
 add-call c = omega (arith, room c, offset-small (start c) .1)
@@ -92,8 +98,8 @@ call-requires-2 c κs =
       a .pre .0,
       (
         call-called prime _ _ _ _ _ _ (a .args .reached) (rows-further singles (far a))
-            (columns-further singles (far a)) _ _ (t .loop-test .taken) (t .before .loop .inv .0) _ (c .call .ensures)
-            (inside a) (a .pre .1 .1 .1 .1 .1),
+            (columns-further singles (far a)) _ _ (t .loop-test .taken) (t .before .loop .inv .0) (edition a) _ (c .call .ensures)
+            (inside a) (a .pre .1 .1 .1 .1 .1 .1),
         (far a .rows-reached .side, (far a .columns-reached .side, light t)),
       ),
     )
@@ -109,7 +115,7 @@ loop-again c =
     let t = c .before .before in
     let a = start t in (
       call-added prime _ _ _ _ _ _ (a .args .reached) (rows-further singles (far a))
-          (columns-further singles (far a)) _ _ (t .loop-test .taken) (t .before .loop .inv .0) _
+          (columns-further singles (far a)) _ _ (t .loop-test .taken) (t .before .loop .inv .0) (edition a) _
           (c .before .call .ensures) _ (c .call2 .ensures .is),
       bounded-onward _ _ _ _ _ (omega arith) (c .call2 .ensures) (t .before .loop .inv .1),
     )

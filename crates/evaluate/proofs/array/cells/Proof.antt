@@ -8,7 +8,7 @@ use Rattle.field.specs.Scalars.{prime}
 use Rattle.weights.specs.Side.{prepared}
 use Rattle.weights.specs.Words.{singles}
 use Rattle.key.specs.KeyArrays.{keyArrays}
-use Rattle.key.proofs.IndexedKey.{accepts, entries-run, opening-inside}
+use Rattle.key.proofs.IndexedKey.{accepts, entries-run, entries-written, opening-inside}
 use Rattle.evaluation.specs.Inner.{ReachedIn}
 use Rattle.evaluation.proofs.NextEntryAdded.{cell-room, cell-below, cell-added}
 use Rattle.evaluation.proofs.PreparedSides.{rows-further, columns-further}
@@ -63,7 +63,8 @@ loop-holds c =
     let a = begun c in (
       λ sheet. rw (c .before .behind .ensures)
           (cells-begun prime _ _ _ _ _ _ _ (entries-run _ _ (a .pre .0) (a .args .i) (inside a))
-          (accepts _ _ (a .pre .0) .well-formed .arrays-fit (a .args .i) (inside a) .entries-fit) (a .pre .1 .1 .1 .0)),
+          (accepts _ _ (a .pre .0) .well-formed .arrays-fit (a .args .i) (inside a) .entries-fit)
+          (entries-written _ _ (a .pre .0) (a .args .i) (inside a)) (a .pre .1 .1 .1 .0)),
       record { a-bound = omega arith; b-bound = omega arith; c-bound = omega arith },
     )
 

@@ -1,14 +1,17 @@
--- `evaluate::entry::call` meets its contract: its two factors are those that the prepared sides have.
-use mathlib.Core.Path.{ap, ap₂, subst, _∙_}
+-- `evaluate::entry::call` meets its contract: its two factors are those that the prepared sides have, and its factor is 1.
+use mathlib.Core.Path.{refl, sym, ap, ap₂, subst, _∙_}
 use denote.Ref.{now}
 use borrow.Author.Needs.{needs}
 use Rattle.field.specs.Fp.{fp}
 use Rattle.field.specs.Scalars.{prime}
+use Rattle.field.proofs.PrimeLawful.{prime-lawful}
 use Rattle.records.specs.declared.Shape.{Shape}
 use Rattle.arrays.specs.Arrays.{Values}
 use Rattle.weights.specs.Side.{prepared}
 use Rattle.weights.specs.Words.{singles}
+use Rattle.key.specs.KeyArrays.{callIn, keyArrays}
 use Rattle.evaluation.specs.Inner.{addedTo}
+use Rattle.evaluation.proofs.UnscaledCalls.{call-unscaled}
 use Rattle.evaluate.specs.Inner.{reducedIn, Grown}
 use Rattle.evaluate.proofs.entry.call.Statement.{statement}
 use Rattle.evaluate.proofs.entry.call.Tie as tie
@@ -74,7 +77,10 @@ returns c =
     ∙ ap (λ (s : Shape). prepared singles (now (a .args .rowwise)) .factor (a .args .shape .rows) (s .rows) (a .args .c .down)) called)
     (weighed .factor2 .ensures .is
     ∙ ap (λ (s : Shape). prepared singles (now (a .args .columnwise)) .factor (a .args .shape .columns) (s .columns) (a .args .c .right))
-    called)))
+    called))
+    ∙ sym (call-unscaled prime prime-lawful (keyArrays (now (a .args .key))) (prepared singles (now (a .args .rowwise)))
+    (prepared singles (now (a .args .columnwise))) (now (a .args .sheet)) (a .args .shape .rows) (a .args .shape .columns)
+    (reducedIn (a .args .sums)) (callIn (a .args .c)) refl))
     (c .add-weighed .ensures)
 
 pub call-spec : {M : Type 1} → statement M

@@ -1,5 +1,7 @@
 -- `evaluate_quadratic::array::calls` meets its contract: one call a turn.
 use Prim.Native.Nat.{_+_, _-_, _≤_, _<_}
+use mathlib.Core.Bool.{false}
+use mathlib.Core.Path.{_≡_}
 use native.Mathlib.Omega.{arith}
 use denote.Ref.{now}
 use borrow.Author.Needs.{needs}
@@ -7,8 +9,8 @@ use lib.ListN.{length, getD}
 use Rattle.quadratic.specs.Quadratic.{quadratic}
 use Rattle.weights.specs.Side.{prepared}
 use Rattle.weights_quadratic.specs.Packed.{packed}
-use Rattle.key.specs.KeyArrays.{keyArrays}
-use Rattle.key.proofs.IndexedKey.{accepts, entries-run, opening-inside}
+use Rattle.key.specs.KeyArrays.{keyArrays, keyScaled}
+use Rattle.key.proofs.IndexedKey.{accepts, entries-run, entries-written, opening-inside}
 use Rattle.evaluation.specs.Inner.{ReachedIn}
 use Rattle.evaluation.proofs.NextEntryAdded.{call-room, call-called, call-added}
 use Rattle.evaluation.proofs.PreparedSides.{rows-further, columns-further}
@@ -38,8 +40,11 @@ module _ (a : tie.Start Inv-loop μ-loop) where
       (getD (now (a .args .starts)) (a .args .i) 0 + 3 ≤ length (now (a .args .key))) × (length (now (a .args .key)) ≤ 65536)
   offset-small = opening-inside _ _ (a .pre .0) (a .args .i) inside
 
+  edition : keyScaled (now (a .args .key)) ≡ false
+  edition = a .pre .1 .1 .1 .0
+
   far : ReachedIn packed (keyArrays (now (a .args .key))) (a .args .i) (a .args .reached) (now (a .args .rowwise)) (now (a .args .columnwise))
-  far = a .pre .1 .1 .1 .1 .0
+  far = a .pre .1 .1 .1 .1 .1 .0
 
 behind-requires : tie.Need-behind-requires Inv-loop μ-loop
 behind-requires c κs = let a = c .before .before .before .before .before in (a .pre .0, (a .pre .1 .0, a .pre .1 .1 .0))
@@ -66,7 +71,8 @@ loop-holds c =
     rw (c .before .nothing .ensures) (
       rw (c .before .before .behind .ensures)
           (calls-begun quadratic _ _ _ _ _ _ _ (entries-run _ _ (a .pre .0) (a .args .i) (inside a))
-          (accepts _ _ (a .pre .0) .well-formed .arrays-fit (a .args .i) (inside a) .entries-fit) (a .pre .1 .1 .1 .0)),
+          (accepts _ _ (a .pre .0) .well-formed .arrays-fit (a .args .i) (inside a) .entries-fit)
+          (entries-written _ _ (a .pre .0) (a .args .i) (inside a)) (a .pre .1 .1 .1 .1 .0)),
       bounded-begun _,
     )
 
@@ -78,7 +84,7 @@ room : (c : tie.In-loop Inv-loop μ-loop) → c .before .loop .at + 11 ≤ lengt
 room c =
     let a = start c in
     call-room quadratic _ _ _ _ _ _ (a .args .reached) (rows-further packed (far a))
-    (columns-further packed (far a)) _ _ (c .loop-test .taken) (c .before .loop .inv .0)
+    (columns-further packed (far a)) _ _ (c .loop-test .taken) (c .before .loop .inv .0) false (edition a)
 
 add-call : tie.Need-add-call Inv-loop μ-loop
 add-call c = omega (arith, room c, offset-small (start c) .1)
@@ -97,8 +103,8 @@ call-requires-2 c κs =
       a .pre .0,
       (
         call-called quadratic _ _ _ _ _ _ (a .args .reached) (rows-further packed (far a))
-            (columns-further packed (far a)) _ _ (t .loop-test .taken) (t .before .loop .inv .0) _ (c .call .ensures)
-            (inside a) (a .pre .1 .1 .1 .1 .1),
+            (columns-further packed (far a)) _ _ (t .loop-test .taken) (t .before .loop .inv .0) (edition a) _ (c .call .ensures)
+            (inside a) (a .pre .1 .1 .1 .1 .1 .1),
         (far a .rows-reached .side, (far a .columns-reached .side, light t)),
       ),
     )
@@ -114,7 +120,7 @@ loop-again c =
     let t = c .before .before in
     let a = start t in (
       call-added quadratic _ _ _ _ _ _ (a .args .reached) (rows-further packed (far a))
-          (columns-further packed (far a)) _ _ (t .loop-test .taken) (t .before .loop .inv .0) _
+          (columns-further packed (far a)) _ _ (t .loop-test .taken) (t .before .loop .inv .0) (edition a) _
           (c .before .call .ensures) _ (c .call2 .ensures .is),
       bounded-onward _ _ _ _ _ (omega arith) (c .call2 .ensures) (t .before .loop .inv .1),
     )

@@ -9,7 +9,7 @@ use Rattle.quadratic.specs.Quadratic.{quadratic}
 use Rattle.weights.specs.Side.{prepared}
 use Rattle.weights_quadratic.specs.Packed.{packed}
 use Rattle.key.specs.KeyArrays.{keyArrays}
-use Rattle.key.proofs.IndexedKey.{accepts, entries-run, opening-inside}
+use Rattle.key.proofs.IndexedKey.{accepts, entries-run, entries-written, opening-inside}
 use Rattle.evaluation.specs.Inner.{ReachedIn}
 use Rattle.evaluation.proofs.NextEntryAdded.{cell-room, cell-below, cell-added}
 use Rattle.evaluation.proofs.PreparedSides.{rows-further, columns-further}
@@ -68,7 +68,8 @@ loop-holds c =
     rw (c .before .nothing .ensures) (
       λ sheet. rw (c .before .before .behind .ensures)
           (cells-begun quadratic _ _ _ _ _ _ _ (entries-run _ _ (a .pre .0) (a .args .i) (inside a))
-          (accepts _ _ (a .pre .0) .well-formed .arrays-fit (a .args .i) (inside a) .entries-fit) (a .pre .1 .1 .1 .0)),
+          (accepts _ _ (a .pre .0) .well-formed .arrays-fit (a .args .i) (inside a) .entries-fit)
+          (entries-written _ _ (a .pre .0) (a .args .i) (inside a)) (a .pre .1 .1 .1 .0)),
       bounded-begun _,
     )
 

@@ -1,9 +1,13 @@
--- `evaluate_quadratic::array::total` meets its contract: the opening's kind says whether cells or calls follow.
+-- `evaluate_quadratic::array::total` meets its contract: the opening's kind says whether cells or calls follow, and the key's
+-- first byte the edition of the calls.
 use Prim.Native.Nat.{_+_, _≤_, _<_}
+use mathlib.Core.Path.{sym, _∙_}
 use native.Mathlib.Omega.{arith}
 use denote.Ref.{now}
 use borrow.Author.Needs.{needs}
 use lib.ListN.{length, getD}
+use Rattle.arrays.specs.Arrays.{arrayAt}
+use Rattle.key.specs.Indexed.{Recursive}
 use Rattle.key.specs.KeyArrays.{keyArrays}
 use Rattle.key.proofs.IndexedKey.{opening-inside, opens-cells, opens-calls}
 use Rattle.evaluate_quadratic.proofs.array.total.Statement.{statement}
@@ -41,18 +45,28 @@ cells-requires c κs =
       ),
     )
 
+scaled-requires : tie.Need-scaled-requires
+scaled-requires c κs =
+    let indexed = c .before .before .before .before .before .before .before .before .pre .0 in (indexed .counts, indexed .accepted)
+
+-- where calls follow: the start
+abbrev start : tie.After-scaled → tie.Start
+start c = c .before .before .before .before .before .before .before .before .before
+
+recursive : (c : tie.After-scaled) → Recursive (arrayAt (keyArrays (now (start c .args .key))) (start c .args .i) .entries)
+recursive c = let a = start c in opens-calls _ _ (a .pre .0) (a .args .i) (there a) (c .before .if1 .left)
+
+scaled-calls-requires : tie.Need-scaled-calls-requires
+scaled-calls-requires c κs =
+    let a = start (c .before) in
+    let edition = sym (c .before .scaled .ensures) ∙ c .if2 .taken in
+    (a .pre .0, (a .pre .1 .0, (a .pre .1 .1 .0, (edition, (recursive (c .before), (a .pre .1 .1 .1 .0, a .pre .1 .1 .1 .1))))))
+
 calls-requires : tie.Need-calls-requires
 calls-requires c κs =
-    let a = c .before .before .before .before .before .before .before .before in (
-      a .pre .0,
-      (
-        a .pre .1 .0,
-        (
-          a .pre .1 .1 .0,
-          (opens-calls _ _ (a .pre .0) (a .args .i) (there a) (c .if1 .left), (a .pre .1 .1 .1 .0, a .pre .1 .1 .1 .1)),
-        ),
-      ),
-    )
+    let a = start (c .before) in
+    let edition = sym (c .before .scaled .ensures) ∙ c .if2 .left in
+    (a .pre .0, (a .pre .1 .0, (a .pre .1 .1 .0, (edition, (recursive (c .before), (a .pre .1 .1 .1 .0, a .pre .1 .1 .1 .1))))))
 
 returns : tie.Need-returns
 returns c =
@@ -60,6 +74,9 @@ returns c =
 
 returns-2 : tie.Need-returns-2
 returns-2 c = search needs
+
+returns-3 : tie.Need-returns-3
+returns-3 c = search needs
 
 pub total-spec : {M : Type 1} → statement M
 total-spec =
@@ -70,6 +87,9 @@ total-spec =
     cast-opening
     shared-slice-read-if1
     cells-requires
+    scaled-requires
+    scaled-calls-requires
     calls-requires
     returns
-    returns-2)
+    returns-2
+    returns-3)

@@ -1,18 +1,22 @@
--- `evaluate_quadratic::entry::call` meets its contract: its two factors are those that the prepared sides have.
-use mathlib.Core.Path.{_≡_, ap, ap₂, _∙_}
+-- `evaluate_quadratic::entry::call` meets its contract: its two factors are those that the prepared sides have, and its factor is 1.
+use mathlib.Core.Path.{_≡_, refl, sym, ap, ap₂, subst, _∙_}
 use denote.Ref.{now}
 use borrow.Author.Needs.{needs}
 use Rattle.quadratic.specs.Fp2.{TwoParts, Reduced, fp2}
 use Rattle.quadratic.specs.Quadratic.{quadratic}
 use Rattle.quadratic.specs.Unreduced.{remainders}
 use Rattle.quadratic.proofs.PartsBelow.{parts-below}
+use Rattle.quadratic.proofs.QuadraticLawful.{quadratic-lawful}
 use Rattle.records.specs.declared.Shape.{Shape}
 use Rattle.arrays.specs.Arrays.{arrayAt}
 use Rattle.weights.specs.Side.{prepared}
 use Rattle.weights_quadratic.specs.Packed.{packed}
-use Rattle.key.specs.KeyArrays.{keyArrays}
+use Rattle.key.specs.KeyArrays.{callIn, keyArrays}
 use Rattle.evaluation.specs.Evaluate.{ValuesOf}
 use Rattle.evaluation.specs.Inner.{sheetValues}
+use Rattle.evaluation.proofs.UnscaledCalls.{call-unscaled}
+use Rattle.evaluate_quadratic.specs.Inner.{reducedIn, Grown}
+use Rattle.evaluate_quadratic.specs.declared.entry.Sums.{Sums}
 use Rattle.evaluate_quadratic.proofs.UnreducedSums.{plus-weighed, grown}
 use Rattle.evaluate_quadratic.proofs.entry.call.Statement.{statement}
 use Rattle.evaluate_quadratic.proofs.entry.call.Tie as tie
@@ -133,13 +137,18 @@ returns c =
     let weighed = of-a .before .before in
     let sums = start weighed .args .sums in
     let same = valued weighed .values .ensures in
-    grown sums (values weighed) (weight weighed) _
+    let a = start weighed .args in
+    let more : Sums = record { a = of-a .added .result; b = of-b .added2 .result; c = c .added3 .result } in
+    subst (λ (v : ValuesOf quadratic). Grown sums v more)
+    (sym (call-unscaled quadratic quadratic-lawful (keyArrays (now (a .key))) (prepared packed (now (a .rowwise)))
+    (prepared packed (now (a .columnwise))) (now (a .sheet)) (a .shape .rows) (a .shape .columns) (reducedIn sums) (callIn (a .c)) refl))
+    (grown sums (values weighed) (weight weighed) more
     (plus-weighed (sums .a) _ _ _
     (times weighed _ _ _ (of-a .before .weighed .ensures .0) (ap (λ (v : ValuesOf quadratic). v .a) same)) (of-a .added .ensures))
     (plus-weighed (sums .b) _ _ _
     (times weighed _ _ _ (of-b .before .weighed2 .ensures .0) (ap (λ (v : ValuesOf quadratic). v .b) same)) (of-b .added2 .ensures))
     (plus-weighed (sums .c) _ _ _
-    (times weighed _ _ _ (c .before .weighed3 .ensures .0) (ap (λ (v : ValuesOf quadratic). v .c) same)) (c .added3 .ensures))
+    (times weighed _ _ _ (c .before .weighed3 .ensures .0) (ap (λ (v : ValuesOf quadratic). v .c) same)) (c .added3 .ensures)))
 
 pub call-spec : {M : Type 1} → statement M
 call-spec =

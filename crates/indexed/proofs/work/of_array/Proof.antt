@@ -5,6 +5,7 @@ use native.Mathlib.Omega.{arith}
 use denote.Ref.{now}
 use borrow.Author.Needs.{needs}
 use lib.ListN.{length, getD}
+use Rattle.records.proofs.RecordSizes.{call-sizes}
 use Rattle.key.proofs.IndexedKey.{opening-inside, behindArray, behind-inside}
 use Rattle.indexed.proofs.work.of_array.Statement.{statement}
 use Rattle.indexed.proofs.work.of_array.Tie as tie
@@ -25,9 +26,9 @@ size-small c = omega (arith, c .less .ensures, c .before .behind .ensures, end-i
 
 -- so many entries times so many bits
 most : (c : tie.After-weighed) →
-    c .before .before .before .before .less .result / c .before .before .entry-bytes .result * c .weighed .result ≤ 33423360
+    c .before .before .before .before .before .before .less .result / c .before .before .entry-bytes .result * c .weighed .result ≤ 33423360
 most c =
-    let size = c .before .before .before .before in
+    let size = c .before .before .before .before .before .before in
     let few : size .less .result / c .before .before .entry-bytes .result ≤ 65536 =
     omega (arith, div-le-self (size .less .result) (c .before .before .entry-bytes .result), size-small size) in
     omega (arith, mul-le-mul few (c .weighed .ensures))
@@ -47,28 +48,35 @@ behind-requires c κs = search needs
 less-requires : tie.Need-less-requires
 less-requires c κs = search needs
 
+scaled-requires : tie.Need-scaled-requires
+scaled-requires c κs = let indexed = c .before .before .before .before .before .pre .0 in (indexed .counts, indexed .accepted)
+
+call-size-requires : tie.Need-call-size-requires
+call-size-requires c κs = search needs
+
 shared-slice-read-entry-bytes : tie.Need-shared-slice-read-entry-bytes
-shared-slice-read-entry-bytes c = omega (arith, inside (c .before .before .before .before .before .before))
+shared-slice-read-entry-bytes c = omega (arith, inside (c .before .before .before .before .before .before .before .before))
 
 entry-bytes-requires : tie.Need-entry-bytes-requires
-entry-bytes-requires c κs = search needs
+entry-bytes-requires c κs = omega (arith, c .before .call-size .ensures, call-sizes (c .before .before .scaled .result))
 
-div-t13 : tie.Need-div-t13
-div-t13 c = search needs
+div-t15 : tie.Need-div-t15
+div-t15 c = search needs
 
 less-requires-2 : tie.Need-less-requires-2
 less-requires-2 c κs = search needs
 
 weighed-requires : tie.Need-weighed-requires
 weighed-requires c κs =
-    let a = c .before .before .before .before .before .before .before .before in
-    (a .pre .0, (omega (arith, a .pre .1), omega (arith, c .less2 .ensures, c .before .before .before .before .behind .ensures, end-inside a)))
+    let end = c .before .before .before .before .before .before in
+    let a = end .before .before .before .before in
+    (a .pre .0, (omega (arith, a .pre .1), omega (arith, c .less2 .ensures, end .behind .ensures, end-inside a)))
 
-mul-t16 : tie.Need-mul-t16
-mul-t16 c = omega (arith, most c)
+mul-t18 : tie.Need-mul-t18
+mul-t18 c = omega (arith, most c)
 
 returns : tie.Need-returns
-returns c = (size-small (c .before .before .before .before), most c)
+returns c = (size-small (c .before .before .before .before .before .before), most c)
 
 pub of-array-spec : {M : Type 1} → statement M
 of-array-spec =
@@ -79,10 +87,12 @@ of-array-spec =
     cast-opening
     behind-requires
     less-requires
+    scaled-requires
+    call-size-requires
     shared-slice-read-entry-bytes
     entry-bytes-requires
-    div-t13
+    div-t15
     less-requires-2
     weighed-requires
-    mul-t16
+    mul-t18
     returns)

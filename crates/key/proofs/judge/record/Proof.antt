@@ -40,6 +40,18 @@ enum-told c = search needs
 end-requires : tie.Need-end-requires
 end-requires c κs = search needs
 
+enum-known-item-6 : tie.Need-enum-known-item-6
+enum-known-item-6 c = search needs
+
+head-requires-2 : tie.Need-head-requires-2
+head-requires-2 c κs = search needs
+
+enum-known-item-7 : tie.Need-enum-known-item-7
+enum-known-item-7 c = search needs
+
+scaled-call-requires : tie.Need-scaled-call-requires
+scaled-call-requires c κs = search needs
+
 returns : tie.Need-returns
 unfolding rulesBehind
 returns c = rw (c .before .before .item .given .1) (c .head .ensures)
@@ -64,6 +76,14 @@ returns-6 : tie.Need-returns-6
 unfolding rulesBehind
 returns-6 c = rw (c .before .enum-told .given .1) (c .end .ensures)
 
+returns-7 : tie.Need-returns-7
+unfolding rulesBehind
+returns-7 c = rw (c .before .before .item6 .given .1) (c .head2 .ensures)
+
+returns-8 : tie.Need-returns-8
+unfolding rulesBehind
+returns-8 c = rw (c .before .before .item7 .given .1) (c .scaled-call .ensures)
+
 pub record-spec : {M : Type 1} → statement M
 record-spec =
     tie.close
@@ -80,9 +100,15 @@ record-spec =
     call-requires
     enum-told
     end-requires
+    enum-known-item-6
+    head-requires-2
+    enum-known-item-7
+    scaled-call-requires
     returns
     returns-2
     returns-3
     returns-4
     returns-5
-    returns-6)
+    returns-6
+    returns-7
+    returns-8)

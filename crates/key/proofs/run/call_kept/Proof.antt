@@ -1,4 +1,5 @@
 -- `key::run::call_kept` meets its contract: it reads the call and holds it to the rules.
+use mathlib.Core.Bool.{false}
 use mathlib.Core.Path.{refl, ap, _∙_}
 use denote.Ref.{now}
 use borrow.Author.Needs.{needs}
@@ -15,7 +16,7 @@ shared-slice-read-if1 c = search needs
 returns : tie.Need-returns
 returns c =
     let a = c .before .before .before .before .args in
-    fails-other (now (a .key)) Record.Call (callRulesIn (now (a .key)) (now (a .starts)) (a .array) (a .arrays)) (a .at) 5 (λ x. refl)
+    fails-other (now (a .key)) Record.Call (callRulesIn (now (a .key)) (now (a .starts)) false (a .array) (a .arrays)) (a .at) 5 (λ x. refl)
     (c .if1 .taken)
 
 add-call : tie.Need-add-call
@@ -35,7 +36,7 @@ returns-2 c =
     let read = c .before .before in
     let start = read .before .before .before .before .before in
     let a = start .args in
-    tried (now (a .key)) Record.Call (callRulesIn (now (a .key)) (now (a .starts)) (a .array) (a .arrays)) (a .at) 5 (λ x. refl) callOf
+    tried (now (a .key)) Record.Call (callRulesIn (now (a .key)) (now (a .starts)) false (a .array) (a .arrays)) (a .at) 5 (λ x. refl) callOf
     (λ x. refl) (read .call .result) (read .call .ensures) (read .before .if1 .left) (start .pre .0) (c .kept .result)
     (c .kept .ensures ∙ ap isKept (c .before .call2 .ensures))
 

@@ -1,5 +1,6 @@
 -- `key::run::calls` meets its contract: each entry that it goes over passes, and none does where it stops.
 use Prim.Native.Nat.{_-_, _≤_}
+use mathlib.Core.Bool.{false}
 use mathlib.Core.Path.{_≡_, refl}
 use native.Mathlib.Omega.{arith}
 use denote.Ref.{now}
@@ -13,7 +14,7 @@ use Rattle.key.proofs.run.calls.Tie as tie
 
 abbrev Inv-loop : tie.InvT-loop
 Inv-loop key starts array arrays from len at₀ at =
-    (len ≡ length key) × ((at ≤ length key) × Gone key Record.Call (callRulesIn key starts array arrays) from at)
+    (len ≡ length key) × ((at ≤ length key) × Gone key Record.Call (callRulesIn key starts false array arrays) from at)
 
 abbrev μ-loop : tie.MeasureT-loop
 μ-loop key starts array arrays from len at₀ at = length key - at
@@ -31,7 +32,7 @@ returns : tie.Need-returns Inv-loop μ-loop
 returns c =
     let i = c .before .before .before .loop in
     let a = c .before .before .before .before .before .before .args in
-    gone-up-to (now (a .key)) Record.Call (callRulesIn (now (a .key)) (now (a .starts)) (a .array) (a .arrays)) 11 (λ x. refl) (a .from) (i .at) (i .inv .1 .1)
+    gone-up-to (now (a .key)) Record.Call (callRulesIn (now (a .key)) (now (a .starts)) false (a .array) (a .arrays)) 11 (λ x. refl) (a .from) (i .at) (i .inv .1 .1)
     (c .before .call-kept .result) (c .if1 .taken) (c .before .call-kept .ensures)
 
 add-at : tie.Need-add-at Inv-loop μ-loop
@@ -47,7 +48,7 @@ loop-again c =
       i .inv .0,
       (
         omega arith,
-        gone-on (now (a .key)) Record.Call (callRulesIn (now (a .key)) (now (a .starts)) (a .array) (a .arrays)) 11 (λ x. refl) (a .from) (i .at) (i .inv .1 .1)
+        gone-on (now (a .key)) Record.Call (callRulesIn (now (a .key)) (now (a .starts)) false (a .array) (a .arrays)) 11 (λ x. refl) (a .from) (i .at) (i .inv .1 .1)
             (c .before .call-kept .result) (c .if1 .left) (c .before .call-kept .ensures),
       ),
     )
@@ -56,7 +57,7 @@ returns-2 : tie.Need-returns-2 Inv-loop μ-loop
 returns-2 c =
     let i = c .before .loop in
     let a = c .before .before .before .before .args in
-    gone-to-the-end (now (a .key)) Record.Call (callRulesIn (now (a .key)) (now (a .starts)) (a .array) (a .arrays)) 11 (λ x. refl) (a .from) (i .at) (i .inv .1 .1)
+    gone-to-the-end (now (a .key)) Record.Call (callRulesIn (now (a .key)) (now (a .starts)) false (a .array) (a .arrays)) 11 (λ x. refl) (a .from) (i .at) (i .inv .1 .1)
     (omega (arith, c .loop-test .left, i .inv .0))
 
 pub calls-spec : {M : Type 1} → statement M

@@ -23,6 +23,12 @@ cell-requires c κs = omega (arith, ap (λ (k : ℕ). total (widthsOf k)) (c .ma
 call-requires : tie.Need-call-requires
 call-requires c κs = omega (arith, ap (λ (k : ℕ). total (widthsOf k)) (c .match .keys5))
 
+shape-requires-4 : tie.Need-shape-requires-4
+shape-requires-4 c κs = omega (arith, ap (λ (k : ℕ). total (widthsOf k)) (c .match .keys6))
+
+scaled-call-requires : tie.Need-scaled-call-requires
+scaled-call-requires c κs = omega (arith, ap (λ (k : ℕ). total (widthsOf k)) (c .match .keys7))
+
 returns : tie.Need-returns
 returns c = rw (c .before .match .keys1) (refl, c .shape .ensures)
 
@@ -39,11 +45,18 @@ returns-5 : tie.Need-returns-5
 returns-5 c = rw (c .before .match .keys5) (refl, c .call .ensures)
 
 returns-6 : tie.Need-returns-6
-returns-6 c =
+returns-6 c = rw (c .before .match .keys6) (refl, c .shape4 .ensures)
+
+returns-7 : tie.Need-returns-7
+returns-7 c = rw (c .before .match .keys7) (refl, c .scaled-call .ensures)
+
+returns-8 : tie.Need-returns-8
+returns-8 c =
     let rest = c .match .rest in
     let start = c .before .before in
     let six : start .args .kind ≡ 6 =
-    end-kind (start .args .kind) (rest .0 .0 .0 .0 .1) (rest .0 .0 .0 .1) (rest .0 .0 .1) (rest .0 .1) (rest .1) (start .pre .0) in
+    end-kind (start .args .kind) (rest .0 .0 .0 .0 .0 .0 .1) (rest .0 .0 .0 .0 .0 .1) (rest .0 .0 .0 .0 .1) (rest .0 .0 .0 .1)
+    (rest .0 .0 .1) (rest .0 .1) (rest .1) (start .pre .0) in
     rw six (refl, refl)
 
 pub record-spec : {M : Type 1} → statement M
@@ -55,9 +68,13 @@ record-spec =
     shape-requires-3
     cell-requires
     call-requires
+    shape-requires-4
+    scaled-call-requires
     returns
     returns-2
     returns-3
     returns-4
     returns-5
-    returns-6)
+    returns-6
+    returns-7
+    returns-8)

@@ -44,6 +44,18 @@ enum-told c = search needs
 kind-requires : tie.Need-kind-requires
 kind-requires c κs = search needs
 
+enum-known-item-6 : tie.Need-enum-known-item-6
+enum-known-item-6 c = search needs
+
+shape-requires-4 : tie.Need-shape-requires-4
+shape-requires-4 c κs = omega (arith, ap (λ (r : Record). length (encoded r)) (c .before .before .item6 .given .1))
+
+enum-known-item-7 : tie.Need-enum-known-item-7
+enum-known-item-7 c = search needs
+
+scaled-call-requires : tie.Need-scaled-call-requires
+scaled-call-requires c κs = omega (arith, ap (λ (r : Record). length (encoded r)) (c .before .before .item7 .given .1))
+
 same-length : tie.Need-same-length
 same-length c = search needs
 
@@ -80,6 +92,18 @@ same-length-6 c = search needs
 returns-6 : tie.Need-returns-6
 returns-6 c = rw (c .before .before .before .before .enum-told .given .1) (c .before .before .kind .ensures, tt)
 
+same-length-7 : tie.Need-same-length-7
+same-length-7 c = search needs
+
+returns-7 : tie.Need-returns-7
+returns-7 c = rw (c .before .before .before .before .before .item6 .given .1) (c .before .before .shape4 .ensures, omega arith)
+
+same-length-8 : tie.Need-same-length-8
+same-length-8 c = search needs
+
+returns-8 : tie.Need-returns-8
+returns-8 c = rw (c .before .before .before .before .before .item7 .given .1) (c .before .before .scaled-call .ensures, omega arith)
+
 pub record-spec : {M : Type 1} → statement M
 record-spec =
     tie.close
@@ -96,6 +120,10 @@ record-spec =
     call-requires
     enum-told
     kind-requires
+    enum-known-item-6
+    shape-requires-4
+    enum-known-item-7
+    scaled-call-requires
     same-length
     returns
     same-length-2
@@ -107,4 +135,8 @@ record-spec =
     same-length-5
     returns-5
     same-length-6
-    returns-6)
+    returns-6
+    same-length-7
+    returns-7
+    same-length-8
+    returns-8)

@@ -1,0 +1,85 @@
+-- Evaluate, cell and compare go by what check says of a key and by its arrays alone, and so they answer alike on a key and on its copy in
+-- the other edition.
+use Prim.Native.Nat.{ℕ}
+use mathlib.Core.List.{List}
+use mathlib.Core.Path.{_≡_, sym, ap₂, _∙_}
+use lib.ListN.{length}
+use Rattle.refusal.specs.Outcome.{Outcome, andThen}
+use Rattle.refusal.specs.declared.Which.{Which}
+use Rattle.field.specs.Fp.{fp}
+use Rattle.field.specs.Scalars.{Scalars, prime}
+use Rattle.multilinear.specs.Weight.{bits}
+use Rattle.arrays.specs.Arrays.{Array}
+use Rattle.key.specs.Check.{checkedKey}
+use Rattle.key.specs.KeyArrays.{keyArrays}
+use Rattle.key.specs.declared.Counts.{Counts}
+use Rattle.judge.specs.Judged.{pointJudged, placeJudged, sheetJudged, pairJudged}
+use Rattle.evaluation.specs.Cell.{denseValues, celled}
+use Rattle.evaluation.specs.Evaluate.{lastOf, valuesAt, lastValues, Evaluation, concluded, evaluated}
+use Rattle.evaluation.specs.Sheet.{placesOf}
+use Rattle.comparison.specs.Compare.{naming, likeness, compared}
+use Rattle.editions.specs.Move.{movedKey}
+use Rattle.editions.specs.OtherEdition.{Movable, Alike}
+use Rattle.editions.proofs.MovedKey.{moved-accepted, moved-arrays}
+
+-- evaluate's answer and sheet, by what check says of the key and by the arrays
+abbrev evaluation : (𝓢 : Scalars) → List ℕ → List ℕ → List ℕ → Outcome Counts → List Array → Evaluation 𝓢
+evaluation 𝓢 rows columns sheet checked arrays =
+    concluded 𝓢 (andThen (andThen checked (pointJudged (𝓢 .width) rows columns)) (sheetJudged (placesOf 𝓢) (length sheet)))
+    (λ counts. valuesAt 𝓢 arrays rows columns (lastOf arrays))
+    (λ counts. valuesAt 𝓢 arrays rows columns)
+    sheet
+
+module _ (𝓢 : Scalars) (one other : List ℕ) (checks : checkedKey one ≡ checkedKey other) (arrays : keyArrays one ≡ keyArrays other) where
+  evaluates-alike : (rows columns sheet : List ℕ) → evaluated 𝓢 one rows columns sheet ≡ evaluated 𝓢 other rows columns sheet
+  evaluates-alike rows columns sheet = ap₂ (evaluation 𝓢 rows columns sheet) checks arrays
+
+  cells-alike : (row column : ℕ) (sheet : List ℕ) → celled one row column sheet ≡ celled other row column sheet
+  cells-alike row column sheet =
+      ap₂ (λ (checked : Outcome Counts) (arrays : List Array).
+      concluded prime (andThen (andThen checked (placeJudged row column)) (sheetJudged (placesOf prime) (length sheet)))
+      (λ counts. denseValues arrays (lastOf arrays) row column)
+      (λ counts. valuesAt prime arrays (bits fp (counts .rows) row) (bits fp (counts .columns) column))
+      sheet)
+      checks arrays
+
+  compares-first-alike : (second rows columns sheet : List ℕ) →
+      compared 𝓢 one second rows columns sheet ≡ compared 𝓢 other second rows columns sheet
+  compares-first-alike second rows columns sheet =
+      ap₂ (λ (checked : Outcome Counts) (arrays : List Array).
+      naming Which.First checked sheet (λ counts.
+      naming Which.Second (checkedKey second) sheet (λ counts'.
+      naming Which.Neither (pairJudged (𝓢 .width) rows columns (length sheet) counts counts') sheet (λ both.
+      record {
+        answer = likeness 𝓢 (valuesAt 𝓢 arrays rows columns (lastOf arrays)) (lastValues 𝓢 second rows columns);
+        sheet = evaluated 𝓢 second rows columns (evaluation 𝓢 rows columns sheet checked arrays .sheet) .sheet;
+      }))))
+      checks arrays
+
+  compares-second-alike : (first rows columns sheet : List ℕ) →
+      compared 𝓢 first one rows columns sheet ≡ compared 𝓢 first other rows columns sheet
+  compares-second-alike first rows columns sheet =
+      ap₂ (λ (checked : Outcome Counts) (arrays : List Array).
+      naming Which.First (checkedKey first) sheet (λ counts.
+      naming Which.Second checked sheet (λ counts'.
+      naming Which.Neither (pairJudged (𝓢 .width) rows columns (length sheet) counts counts') sheet (λ both.
+      record {
+        answer = likeness 𝓢 (lastValues 𝓢 first rows columns) (valuesAt 𝓢 arrays rows columns (lastOf arrays));
+        sheet = evaluation 𝓢 rows columns (evaluated 𝓢 first rows columns sheet .sheet) checked arrays .sheet;
+      }))))
+      checks arrays
+
+  pub answers-alike : Alike 𝓢 one other
+  answers-alike =
+      record {
+        checks = checks;
+        evaluates = evaluates-alike;
+        cells = cells-alike;
+        compares-first = compares-first-alike;
+        compares-second = compares-second-alike;
+      }
+
+-- so they answer on the moved key as on the key
+pub moved-alike : (𝓢 : Scalars) (key : List ℕ) (counts : Counts) → Movable key counts → Alike 𝓢 (movedKey key) key
+moved-alike 𝓢 key counts movable =
+    answers-alike 𝓢 (movedKey key) key (moved-accepted key counts movable ∙ sym (movable .accepted)) (moved-arrays key counts movable)

@@ -1,0 +1,2 @@
+pub mod Move
+pub mod OtherEdition
