@@ -19,8 +19,8 @@ use Rattle.evaluation.specs.Evaluate.{lastOf, valuesAt, lastValues, Evaluation,
 use Rattle.evaluation.specs.Sheet.{placesOf}
 use Rattle.comparison.specs.Compare.{naming, likeness, compared}
 use Rattle.editions.specs.Move.{movedKey}
-use Rattle.editions.specs.OtherEdition.{Movable, Alike}
-use Rattle.editions.proofs.MovedKey.{moved-accepted, moved-arrays}
+use Rattle.editions.specs.OtherEdition.{Alike}
+use Rattle.editions.proofs.MovedKey.{Movable, moved-accepted, moved-arrays}
 
 -- evaluate's answer and sheet, by what check says of the key and by the arrays
 abbrev evaluation : (𝓢 : Scalars) → List ℕ → List ℕ → List ℕ → Outcome Counts → List Array → Evaluation 𝓢

@@ -15,8 +15,7 @@ use Rattle.key.specs.KeyArrays.{keyArrays, keyScaled}
 use Rattle.key.specs.declared.Counts.{Counts}
 use Rattle.key.proofs.Acceptance.{acceptance}
 use Rattle.editions.specs.Move.{movedKey, moving}
-use Rattle.editions.specs.OtherEdition.{Movable}
-use Rattle.editions.proofs.MovedKey.{twice, moved-accepted, moved-arrays, moved-edition, moved-factors}
+use Rattle.editions.proofs.MovedKey.{Movable, twice, moved-accepted, moved-arrays, moved-edition, moved-factors}
 use Rattle.editions.proofs.MovedRecords.{moved-is}
 use Rattle.editions.proofs.MovingCases.{copy-given}
 

@@ -8,10 +8,10 @@ use Rattle.field.specs.Scalars.{Scalars}
 use Rattle.records.proofs.NumberBytes.{AreBytes}
 use Rattle.key.specs.declared.Counts.{Counts}
 use Rattle.editions.specs.Move.{movedKey}
-use Rattle.editions.specs.OtherEdition.{Movable, OtherEdition, Moves}
+use Rattle.editions.specs.OtherEdition.{OtherEdition, Moves}
 use Rattle.editions.proofs.AnswersAlike.{moved-alike}
 use Rattle.editions.proofs.MovedBack.{moves-back}
-use Rattle.editions.proofs.MovedKey.{moved-accepted, moved-edition, moved-arrays}
+use Rattle.editions.proofs.MovedKey.{Movable, moved-accepted, moved-edition, moved-arrays}
 use Rattle.editions.proofs.MovingCases.{Copies, given-copies}
 
 pub moved-other : (𝓢 : Scalars) (key : List ℕ) → AreBytes key → (counts : Counts) → Movable key counts → OtherEdition 𝓢 key (movedKey key)

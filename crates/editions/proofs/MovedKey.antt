@@ -1,5 +1,5 @@
 -- The moved key is accepted with the same counts, has the same arrays and is of the other edition.
-use Prim.Native.Nat.{ℕ}
+use Prim.Native.Nat.{ℕ, _≤_}
 use mathlib.Core.Bool.{Bool, true, false, not}
 use mathlib.Core.List.{List, []}
 use mathlib.Core.Path.{_≡_, refl, sym, ap, subst, _∙_}
@@ -17,9 +17,14 @@ use Rattle.key.specs.declared.Counts.{Counts}
 use Rattle.key.proofs.Acceptance.{acceptance}
 use Rattle.key.proofs.WellFormedIsAccepted.{well-formed-accepted, well-formed-records, well-formed-back, well-formed-edition}
 use Rattle.editions.specs.Move.{movedKey, otherFactors}
-use Rattle.editions.specs.OtherEdition.{Movable}
 use Rattle.editions.proofs.MovedRecords.{moved-is}
 use Rattle.editions.proofs.OtherFactors.{otherFactorsFrom, Unscaled, factors-lie, none-other, no-factors, key-written, key-unscaled}
+
+-- a key that can be moved: it is accepted with these counts, it has no factor other than 1, and its copy is not too long
+pub record Movable (key : List ℕ) (counts : Counts) : Type 0 where
+  pub accepted : checkedKey key ≡ given counts
+  pub factors-one : otherFactors key ≡ []
+  pub at-most-65536 : length (movedKey key) ≤ 65536
 
 pub twice : (b : Bool) → not (not b) ≡ b
 twice false = refl

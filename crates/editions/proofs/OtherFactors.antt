@@ -1,24 +1,21 @@
 -- Where the calls lie whose factor isn't 1, and that the arrays of a key without them can be written in the other edition.
-use Prim.Native.Nat.{ℕ, zero, suc, _+_, _≤_}
+use Prim.Native.Nat.{ℕ, suc, _+_, _≤_}
 use mathlib.Core.Bool.{Bool, true, false, cond, not}
 use mathlib.Core.List.{flatMap, List, [], _∷_, _++_, map}
-use mathlib.Core.Logic.{_⊎_, inl, inr}
-use mathlib.Core.Path.{_≡_, refl, sym, ap, subst, _∙_}
+use mathlib.Core.Path.{_≡_, refl, ap, _∙_}
 use native.Mathlib.Omega.{arith}
 use borrow.Author.Tests.{eqb-true, eq-eqb, not-false}
 use lib.ListN.{length, getD}
-use Rattle.refusal.specs.Outcome.{Outcome, given, refused}
-use Rattle.records.specs.Kinds.{encoded, recordOf}
-use Rattle.records.specs.Take.{Found, takenAt}
+use Rattle.records.specs.Kinds.{encoded}
 use Rattle.records.specs.declared.Record.{Record}
-use Rattle.records.proofs.FoundIsRecord.{found-taken}
 use Rattle.arrays.specs.Arrays.{Call, Entries, cells, calls, Array}
 use Rattle.arrays.specs.WellFormed.{Each}
 use Rattle.arrays.proofs.EachElement.{each-all, each-apart, each-append, each-map, each-mapped}
 use Rattle.key.specs.Encoding.{cellRecord, callRecord, openingRecord, entryRecords, headRecord, arrayRecords, arraysRecords, keyRecords, FactorIn, EntriesIn, InEdition}
 use Rattle.key.specs.Index.{Runs}
-use Rattle.key.specs.Reading.{Reading, behind, readAt, readFrom, locatedIn, items, recordsIn}
-use Rattle.key.proofs.EndOrOnward.{Onward, ends-or-not, behind-onward}
+use Rattle.key.specs.Reading.{recordsIn}
+use Rattle.key.proofs.Offsets.{locatedFrom}
+use Rattle.key.proofs.RecordRuns.{read-runs}
 use Rattle.editions.specs.Move.{hasOtherFactor, otherFactorsIn, otherFactors}
 use Rattle.editions.proofs.RecordsToEnd.{taken-inside}
 
@@ -30,40 +27,17 @@ at-other other at = cond other (at ∷ []) []
 
 -- the offsets of such calls among some records that begin at an offset
 abbrev pub otherFactorsFrom : ℕ → List Record → List ℕ
-otherFactorsFrom at [] = []
-otherFactorsFrom at (r ∷ records) = at-other (hasOtherFactor r) at ++ otherFactorsFrom (at + length (encoded r)) records
+otherFactorsFrom at records = otherFactorsIn (locatedFrom at records)
 
 module _ (key : List ℕ) where
   -- they lie where the records lie that are read
-  abbrev Lie : ℕ → Reading → Type 0
-  Lie at reading = otherFactorsIn (locatedIn reading) ≡ otherFactorsFrom at (items (locatedIn reading))
-
-  read-lie : (steps at : ℕ) → Lie at (readFrom steps key at)
-  unfolding readFrom readAt locatedIn flatMap
-  read-lie zero at = refl
-  read-lie (suc steps) at = taken (takenAt key at) refl (read-lie steps)
-    where
-      cut : (r : Record) (next : ℕ) → (r ≡ Record.End) ⊎ Onward r → Lie next (readFrom steps key next) →
-          Lie next (behind r (readFrom steps key next))
-      cut r next (inl end) lie = subst (λ (r : Record). Lie next (behind r (readFrom steps key next))) (sym end) refl
-      cut r next (inr on) lie = subst (Lie next) (sym (behind-onward r on (readFrom steps key next))) lie
-
-      taken : (t : Outcome Found) → takenAt key at ≡ t → ((next : ℕ) → Lie next (readFrom steps key next)) →
-          Lie at (readAt at t (readFrom steps key))
-      taken (refused number place) e later = refl
-      taken (given found) e later =
-          let r : Record = recordOf (found .kind) (found .fields) in
-          let here = found-taken key at found e in
-          let rest : List Record = items (locatedIn (behind r (readFrom steps key (found .next)))) in
-          ap (λ (more : List ℕ). at-other (hasOtherFactor r) at ++ more)
-          (cut r (found .next) (ends-or-not r) (later (found .next)) ∙ ap (λ (m : ℕ). otherFactorsFrom m rest) (here .1))
-
   pub factors-lie : otherFactors key ≡ otherFactorsFrom 0 (recordsIn key)
-  factors-lie = read-lie (suc (length key)) 0
+  factors-lie = ap otherFactorsIn (read-runs key (suc (length key)) 0 .1)
 
   -- and so in the key
   pub factor-inside : (from : ℕ) (records : List Record) → Runs key from records (length key) →
       length key ≤ getD (otherFactorsFrom from records) 0 (length key) → otherFactorsFrom from records ≡ []
+  unfolding flatMap
   factor-inside from [] runs l = refl
   factor-inside from (r ∷ records) runs l =
       go (hasOtherFactor r) l (factor-inside (from + length (encoded r)) records (runs .1))
@@ -82,6 +56,7 @@ abbrev pub Unscaled : Record → Type 0
 Unscaled r = hasOtherFactor r ≡ false
 
 pub none-other : (at : ℕ) (records : List Record) → otherFactorsFrom at records ≡ [] → Each Unscaled records
+unfolding flatMap
 none-other at [] none = tt
 none-other at (r ∷ records) none = go (hasOtherFactor r) refl none (none-other (at + length (encoded r)) records)
   where
@@ -94,6 +69,7 @@ none-other at (r ∷ records) none = go (hasOtherFactor r) refl none (none-other
     go false e none rest = (e, rest none)
 
 pub no-factors : (at : ℕ) (records : List Record) → Each Unscaled records → otherFactorsFrom at records ≡ []
+unfolding flatMap
 no-factors at [] each = refl
 no-factors at (r ∷ records) each =
     ap (λ (other : Bool). at-other other at ++ otherFactorsFrom (at + length (encoded r)) records) (each .0)

@@ -1,7 +1,7 @@
 -- The search for a factor other than 1, before the record at an offset.
 use Prim.Native.Nat.{ℕ, _≤_}
 use mathlib.Core.Bool.{Bool, true, false, cond}
-use mathlib.Core.List.{List, [], _∷_, _++_}
+use mathlib.Core.List.{flatMap, List, [], _∷_, _++_}
 use mathlib.Core.Path.{_≡_, sym, ap, ap₂, _∙_}
 use lib.ListN.{length, getD}
 use Rattle.records.specs.Take.{takenOutcome, takenAt}
@@ -50,6 +50,7 @@ module _ (key : List ℕ) where
       -- such calls from the offset on, by whether the record is one
       by-record : (other : Bool) → hasOtherFactor item ≡ other →
           otherFactors key ≡ cond other (at ∷ []) [] ++ otherFactorsFrom next (n .rest)
+      unfolding flatMap
       by-record other e =
           ahead .same ∙ ap (otherFactorsFrom at) (n .is)
           ∙ ap₂ (λ (b : Bool) (m : ℕ). cond b (at ∷ []) [] ++ otherFactorsFrom m (n .rest)) e (sym (n .further))
@@ -61,6 +62,7 @@ module _ (key : List ℕ) where
       search-on e = record { todo = n .rest; runs = n .runs; same = by-record false e }
 
     pub search-ended : length key ≤ at → length key ≡ firstOther
+    unfolding flatMap
     search-ended l =
         sym (ap (λ (offsets : List ℕ). getD offsets 0 (length key))
         (ahead .same ∙ ap (otherFactorsFrom at) (run-ended key at (ahead .todo) (ahead .runs) l)))

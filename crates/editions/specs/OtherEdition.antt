@@ -2,7 +2,7 @@
 -- first bytes.
 use Prim.Native.Nat.{ℕ, _≤_, _<_}
 use mathlib.Core.Bool.{not}
-use mathlib.Core.List.{List, []}
+use mathlib.Core.List.{List}
 use mathlib.Core.Path.{_≡_}
 use lib.ListN.{length, getD, take}
 use Rattle.refusal.specs.Outcome.{given}
@@ -14,13 +14,7 @@ use Rattle.key.specs.declared.Counts.{Counts}
 use Rattle.evaluation.specs.Cell.{celled}
 use Rattle.evaluation.specs.Evaluate.{evaluated}
 use Rattle.comparison.specs.Compare.{compared}
-use Rattle.editions.specs.Move.{movedKey, otherFactors, moving}
-
--- a key that can be moved: it is accepted with these counts, it has no factor other than 1, and its copy is not too long
-pub record Movable (key : List ℕ) (counts : Counts) : Type 0 where
-  pub accepted : checkedKey key ≡ given counts
-  pub factors-one : otherFactors key ≡ []
-  pub at-most-65536 : length (movedKey key) ≤ 65536
+use Rattle.editions.specs.Move.{moving}
 
 -- two keys on which check, evaluate and compare over a field, and cell answer the same
 pub record Alike (𝓢 : Scalars) (one other : List ℕ) : Type 0 where

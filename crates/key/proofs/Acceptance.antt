@@ -18,7 +18,7 @@ use Rattle.key.specs.Accepted.{Accepted, arrayCounts}
 use Rattle.key.specs.Before.{isScaled}
 use Rattle.key.specs.Check.{checkedKey}
 use Rattle.key.specs.Encoding.{headRecord, arrayRecords, arraysRecords, keyRecords, keyBytes, InEdition}
-use Rattle.key.specs.Index.{startsOf, Runs, Indexes}
+use Rattle.key.specs.Index.{startsIn, startsOf, Runs, Indexes}
 use Rattle.key.specs.KeyArrays.{arraysOf, keyArrays, keyScaled}
 use Rattle.key.specs.Reading.{recordsIn}
 use Rattle.key.specs.declared.Counts.{Counts}
@@ -95,7 +95,7 @@ module _ (key : List ℕ) (counts : Counts) (accepted : checkedKey key ≡ given
 
   starts-are : startsOf key ≡ arrayStarts (m .scaled) 3 arrays
   unfolding all arrays
-  starts-are = read-runs key (suc (length key)) 0 .1 ∙ ap (startsFrom 0) records
+  starts-are = ap startsIn (read-runs key (suc (length key)) 0 .1) ∙ ap (startsFrom 0) records
       ∙ starts-behind (m .scaled) (m .n) (m .n') (arraysRecords (m .scaled) arrays ++ (Record.End ∷ []))
       ∙ starts-arrays (m .scaled) 3 arrays
 

@@ -10,6 +10,8 @@ use Rattle.records.specs.declared.Record.{Record}
 use Rattle.arrays.specs.Arrays.{Entries, cells, calls, Array}
 use Rattle.key.specs.Before.{openingIn}
 use Rattle.key.specs.Encoding.{cellRecord, callRecord, openingRecord, entryRecords, headRecord, arrayRecords, arraysRecords}
+use Rattle.key.specs.Index.{startsIn}
+use Rattle.key.specs.Reading.{Located}
 use Rattle.rules.specs.declared.Opening.{Opening}
 use Rattle.key.proofs.Encodings.{call-unopened}
 use Rattle.key.proofs.JoinedLists.{flatMap-append}
@@ -25,10 +27,15 @@ behind-cons at r records = omega (arith, length-append (encoded r) (bytesOfAll r
 pub behind-append : (at : ℕ) (records more : List Record) → offsetBehind (offsetBehind at records) more ≡ offsetBehind at (records ++ more)
 behind-append at records more = omega (arith, ap length (flatMap-append encoded records more), length-append (bytesOfAll records) (bytesOfAll more))
 
--- the offsets of the openings among some records that begin at an offset
+-- some records that begin at an offset, each with its own
+abbrev pub locatedFrom : ℕ → List Record → List Located
+locatedFrom at [] = []
+locatedFrom at (r ∷ records) =
+    record { item = r; at = at; next = at + length (encoded r) } ∷ locatedFrom (at + length (encoded r)) records
+
+-- the offsets of the openings among them
 abbrev pub startsFrom : ℕ → List Record → List ℕ
-startsFrom at [] = []
-startsFrom at (r ∷ records) = map (λ (o : Opening). at) (openingIn r) ++ startsFrom (at + length (encoded r)) records
+startsFrom at records = startsIn (locatedFrom at records)
 
 -- ---- where arrays begin
 
@@ -63,6 +70,7 @@ starts-none item none at (x ∷ list) more =
 starts-array : (scaled : Bool) (at k k' : ℕ) (entries : Entries) (more : List Record) →
     startsFrom at ((openingRecord k k' entries ∷ entryRecords scaled entries) ++ more) ≡
     at ∷ startsFrom (offsetBehind at (openingRecord k k' entries ∷ entryRecords scaled entries)) more
+unfolding flatMap
 starts-array scaled at k k' (cells list) more =
     ap (λ (s : List ℕ). at ∷ s)
     (starts-none cellRecord (λ c. refl) (at + 3) list more
@@ -83,5 +91,6 @@ starts-arrays scaled at (array ∷ arrays) =
 -- a head opens no array, and they begin behind it
 pub starts-behind : (scaled : Bool) (n n' : ℕ) (records : List Record) →
     startsFrom 0 (headRecord scaled n n' ∷ records) ≡ startsFrom 3 records
+unfolding flatMap
 starts-behind false n n' records = refl
 starts-behind true n n' records = refl

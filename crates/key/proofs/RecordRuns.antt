@@ -16,12 +16,10 @@ use Rattle.records.specs.declared.Taken.{Taken}
 use Rattle.records.proofs.FoundIsRecord.{found-taken}
 use Rattle.records.proofs.RoundTrip.{taken-bytes}
 use Rattle.arrays.specs.Arrays.{Array, arrayAt}
-use Rattle.key.specs.Before.{openingIn}
 use Rattle.key.specs.Encoding.{arrayRecords, arraysRecords}
-use Rattle.key.specs.Index.{startsIn, Runs}
-use Rattle.key.specs.Reading.{Reading, behind, readAt, readFrom, locatedIn, items}
-use Rattle.rules.specs.declared.Opening.{Opening}
-use Rattle.key.proofs.Offsets.{offsetBehind, behind-cons, behind-append, startsFrom, arrayStarts, first-bound}
+use Rattle.key.specs.Index.{Runs}
+use Rattle.key.specs.Reading.{Located, Reading, behind, readAt, readFrom, locatedIn, items}
+use Rattle.key.proofs.Offsets.{offsetBehind, behind-cons, behind-append, locatedFrom, arrayStarts, first-bound}
 use Rattle.key.proofs.EndOrOnward.{Onward, ends-or-not, behind-onward}
 
 module _ (key : List ℕ) where
@@ -30,11 +28,11 @@ module _ (key : List ℕ) where
 
   -- ---- what is read
 
-  -- the records of a reading run from an offset on, and its openings begin where they lie
+  -- the records of a reading run from an offset on, and that is where each of them lies
   abbrev Read : ℕ → Reading → Type 0
   Read at reading =
       Runs key at (items (locatedIn reading)) (offsetBehind at (items (locatedIn reading))) ×
-      (startsIn (locatedIn reading) ≡ startsFrom at (items (locatedIn reading)))
+      (locatedIn reading ≡ locatedFrom at (items (locatedIn reading)))
 
   pub read-runs : (steps at : ℕ) → Read at (readFrom steps key at)
   unfolding readFrom readAt locatedIn flatMap
@@ -60,7 +58,8 @@ module _ (key : List ℕ) where
               runs-to (at + length (encoded r)) rest _ _ (behind-cons at r rest)
                   (subst (λ (m : ℕ). Runs key m rest (offsetBehind m rest)) (here .1) (read .0)),
             ),
-            ap (λ (s : List ℕ). map (λ (o : Opening). at) (openingIn r) ++ s) (read .1 ∙ ap (λ (m : ℕ). startsFrom m rest) (here .1)),
+            ap₂ (λ (next : ℕ) (s : List Located). record { item = r; at = at; next = next } ∷ s) (here .1)
+                (read .1 ∙ ap (λ (m : ℕ). locatedFrom m rest) (here .1)),
           )
 
   -- ---- the records of some arrays
