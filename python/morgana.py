@@ -24,9 +24,9 @@ any type that operator.index takes, as those of Sage and numpy; a negative one
 raises ValueError, and what is no integer raises TypeError.
 
 >>> morgana.evaluate(old, [3], [4])
-Values(a=2147483567, b=2147483535, c=0)
+Values(a=2147483567, b=2147483535, c=0, factors=3)
 >>> morgana.cell(old, 0, 1)
-Values(a=10, b=14, c=0)
+Values(a=10, b=14, c=0, factors=3)
 
 For the calls whose names end in _quadratic a coordinate is an element u + v*i
 of the field of p*p elements, where i*i is -1: two numbers, u first. A random
@@ -36,9 +36,17 @@ point tells keys that differ apart, but for a small likelihood:
 ...     "010101 020101 04 00000000 01000000 0a000000 0e000000 00000000 06")
 >>> rows, columns = morgana.random_point(1, 1, quadratic=True)
 >>> morgana.compare_quadratic(old, new, rows, columns)
-Compared(same=True)
+Compared(same=True, factors=5)
 >>> float(morgana.likelihood(2, quadratic=True)) < 5e-19
 True
+
+Factors. These answers count the factors of the weights that a key's cells and
+calls have, one for each coordinate: k + k' for a cell of an array of k row and
+k' column bits, and (k - K) + (k' - K') for a call from such an array of one of
+K and K' bits. The sum is over all arrays, called or not. It is the same at
+every point and over both fields, and at most (n + n') * (cells + calls). Two
+keys that are compared have the sum of both: the cell and both calls of `old`
+count 1 each, and the cell of `new` counts 2.
 
 Sheets. A call works on a sheet of 32-bit numbers and leaves every array's
 numbers there. Where none is given, the module lends its own. A caller's sheet
@@ -53,8 +61,9 @@ numpy uint32, a ctypes array, a cast memoryview); any other raises TypeError.
 
 Editions. This key is of edition 1: its head is of kind 01, and its calls are
 of kind 05. In edition 2 the head is of kind 07, and calls are of kind 08 and
-have a factor below p, by which the called matrices are multiplied. Every call
-takes keys of both, and moved answers a key in the edition that it is not of:
+have a factor below p, by which the called matrices are multiplied and which
+does not count among the factors above. Every call takes keys of both, and
+moved answers a key in the edition that it is not of:
 
 >>> there = morgana.moved(old)
 >>> there[0], len(old), len(there)
@@ -94,7 +103,7 @@ __all__ = [
     "Number", "P", "KEY_LIMIT", "MOST_ARRAYS", "MOST_BITS", "SHEET", "SHEET_QUADRATIC", "FOLDER",
 ]
 
-__version__ = "0.3.0"
+__version__ = "0.4.0"
 
 # The folder of the installed library; empty in a module that is not installed.
 FOLDER = ""
@@ -205,40 +214,47 @@ class Quadratic(typing.NamedTuple):
 @_answer
 class Values:
     """A, B and C of a key's last array: numbers below p, or over p*p a
-    Quadratic each.
+    Quadratic each; and how many factors the weights of the key's cells and
+    calls have, one for each coordinate.
     """
 
     a: int | Quadratic
     b: int | Quadratic
     c: int | Quadratic
+    factors: int
 
 
 @_answer
 class Compared:
-    """What is found of two keys at a point. It has no truth value of its own:
-    `same` is the field to ask.
+    """What is found of two keys at a point, and how many factors both have
+    together, as Values counts them. It has no truth value of its own: `same`
+    is the field to ask.
     """
 
     same: bool
+    factors: int
 
     def __bool__(self):
         raise TypeError("Compared has no truth value: use .same")
 
 
-def _reply(name, *fields, kind=ctypes.c_uint32):
-    """The structure that a call answers: number, place, and then these fields, of 32 bits each
-    unless they are of another kind.
+def _reply(name, *fields, last=None):
+    """The structure that a call answers: number, place, then these fields, of 32 bits each, and
+    then the last one, of 64 bits, where there is one.
     """
     types = [("number", ctypes.c_uint32), ("place", ctypes.c_uint64)]
-    types += [(field, kind) for field in fields]
+    types += [(field, ctypes.c_uint32) for field in fields]
+    types += [(last, ctypes.c_uint64)] if last else []
     return type(name, (ctypes.Structure,), {"_fields_": types})
 
 
+_SIX = "a_u", "a_v", "b_u", "b_v", "c_u", "c_v"
+
 _CheckReply = _reply("_CheckReply", "arrays", "cells", "calls", "rows", "columns")
-_EvaluateReply = _reply("_EvaluateReply", "a", "b", "c")
-_QuadraticReply = _reply("_QuadraticReply", "a_u", "a_v", "b_u", "b_v", "c_u", "c_v")
-_CompareReply = _reply("_CompareReply", "key", "same")
-_MoveReply = _reply("_MoveReply", "length", kind=ctypes.c_uint64)
+_EvaluateReply = _reply("_EvaluateReply", "a", "b", "c", last="factors")
+_QuadraticReply = _reply("_QuadraticReply", *_SIX, last="factors")
+_CompareReply = _reply("_CompareReply", "key", "same", last="factors")
+_MoveReply = _reply("_MoveReply", last="length")
 
 _KEY = (ctypes.c_char_p, ctypes.c_size_t)
 _BUFFER = (ctypes.c_char_p, ctypes.c_size_t)
@@ -265,7 +281,7 @@ def _chosen():
 
 
 def _version_text(number):
-    """The version that one number stands for, as 0.3.0."""
+    """The version that one number stands for, as 0.4.0."""
     return f"{number // 1_000_000}.{number // 1_000 % 1_000}.{number % 1_000}"
 
 
@@ -352,6 +368,16 @@ def _accepted(reply):
     return reply
 
 
+def _values(reply):
+    """The Values of a reply over p."""
+    return Values(a=reply.a, b=reply.b, c=reply.c, factors=reply.factors)
+
+
+def _compared(reply):
+    """What a reply to a comparison says."""
+    return Compared(same=reply.same == 1, factors=reply.factors)
+
+
 def version():
     """The library's version as one number: 1,000,000 for each major, 1,000 for
     each minor and 1 for each patch version.
@@ -381,7 +407,7 @@ def evaluate(key, rows, columns, sheet=None):
     """
     function = _library.morgana_evaluate
     reply = _accepted(_at_point(function, [key], rows, columns, sheet, SHEET))
-    return Values(a=reply.a, b=reply.b, c=reply.c)
+    return _values(reply)
 
 
 def cell(key, row, column, sheet=None):
@@ -393,20 +419,20 @@ def cell(key, row, column, sheet=None):
     """
     place = _number("row", row), _number("column", column)
     reply = _accepted(_library.morgana_cell(*_bytes(key), *place, *_lent(sheet, SHEET)))
-    return Values(a=reply.a, b=reply.b, c=reply.c)
+    return _values(reply)
 
 
 def compare(first, second, rows, columns, sheet=None):
-    """Answers whether evaluate gives the same Values for two keys at a point,
-    as Compared. The sheet is then as after evaluating the first key and then
-    the second.
+    """Answers whether evaluate gives the same A, B and C for two keys at a
+    point, as Compared. The sheet is then as after evaluating the first key and
+    then the second.
 
     Refuses as check does for the first key, then for the second, and names the
     key; then with 35, 21, 22, 23; then with 31 for the key with more arrays.
     """
     function = _library.morgana_compare
     reply = _accepted(_at_point(function, [first, second], rows, columns, sheet, SHEET))
-    return Compared(same=reply.same == 1)
+    return _compared(reply)
 
 
 def evaluate_quadratic(key, rows, columns, sheet=None):
@@ -423,19 +449,20 @@ def evaluate_quadratic(key, rows, columns, sheet=None):
         a=Quadratic(reply.a_u, reply.a_v),
         b=Quadratic(reply.b_u, reply.b_v),
         c=Quadratic(reply.c_u, reply.c_v),
+        factors=reply.factors,
     )
 
 
 def compare_quadratic(first, second, rows, columns, sheet=None):
-    """Answers whether evaluate_quadratic gives the same Values for two keys at
-    a point over p*p, as Compared. The sheet is then as after evaluating the
+    """Answers whether evaluate_quadratic gives the same A, B and C for two keys
+    at a point over p*p, as Compared. The sheet is then as after evaluating the
     first key and then the second there.
 
     Refuses as compare does, with counts and places as evaluate_quadratic.
     """
     function = _library.morgana_compare_quadratic
     reply = _accepted(_at_point(function, [first, second], rows, columns, sheet, SHEET_QUADRATIC))
-    return Compared(same=reply.same == 1)
+    return _compared(reply)
 
 
 def moved(key):

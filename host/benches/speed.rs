@@ -111,9 +111,10 @@ fn hold_equal(sample: &Sample) {
     );
     let mut sheets = [sample.sheet(), sample.sheet(), sample.sheet()];
     let [of_archive, of_factors, of_tables] = &mut sheets;
-    let got = morgana::evaluate(key, rows, columns, of_archive)
-        .expect("the point fits")
-        .values;
+    let got = morgana::evaluate(key, rows, columns, of_archive).expect("the point fits");
+    assert_eq!(got.factors, sample.factors as u64);
+    assert_eq!(pass::factors(key), Ok(got.factors));
+    let got = got.values;
     let wanted = Ok([got.a, got.b, got.c]);
     let answer = pass::evaluate::<Factors<Fp>>(key, rows, columns, of_factors);
     assert_eq!(answer, wanted);
@@ -121,9 +122,10 @@ fn hold_equal(sample: &Sample) {
     assert_eq!(answer, wanted);
     assert_eq!(of_archive, of_factors);
     assert_eq!(of_archive, of_tables);
-    let got = morgana::compare(key, other, rows, columns, of_archive);
-    let same = got.expect("the keys fit").same;
+    let got = morgana::compare(key, other, rows, columns, of_archive).expect("the keys fit");
+    let same = got.same;
     assert_eq!(same, key == other);
+    assert_eq!(got.factors, 2 * sample.factors as u64);
     let answer = pass::compare::<Factors<Fp>>(key, other, rows, columns, of_factors);
     assert_eq!(answer, Ok(same));
     let answer = pass::compare::<Tables<Fp>>(key, other, rows, columns, of_tables);
@@ -143,9 +145,9 @@ fn hold_equal_over_p_squared(sample: &Sample) {
     } = sample;
     let mut sheets = [sample.sheet(), sample.sheet(), sample.sheet()];
     let [of_archive, of_factors, of_tables] = &mut sheets;
-    let got = morgana::evaluate_quadratic(key, rows, columns, of_archive)
-        .expect("the point fits")
-        .values;
+    let got = morgana::evaluate_quadratic(key, rows, columns, of_archive).expect("the point fits");
+    assert_eq!(got.factors, sample.factors as u64);
+    let got = got.values;
     let wanted = Ok([got.a, got.b, got.c].map(|element| [element.u, element.v]));
     let answer = pass::evaluate::<Factors<Quadratic>>(key, rows, columns, of_factors);
     assert_eq!(answer, wanted);
@@ -153,9 +155,11 @@ fn hold_equal_over_p_squared(sample: &Sample) {
     assert_eq!(answer, wanted);
     assert_eq!(of_archive, of_factors);
     assert_eq!(of_archive, of_tables);
-    let got = morgana::compare_quadratic(key, other, rows, columns, of_archive);
-    let same = got.expect("the keys fit").same;
+    let got =
+        morgana::compare_quadratic(key, other, rows, columns, of_archive).expect("the keys fit");
+    let same = got.same;
     assert_eq!(same, key == other);
+    assert_eq!(got.factors, 2 * sample.factors as u64);
     let answer = pass::compare::<Factors<Quadratic>>(key, other, rows, columns, of_factors);
     assert_eq!(answer, Ok(same));
     let answer = pass::compare::<Tables<Quadratic>>(key, other, rows, columns, of_tables);

@@ -43,6 +43,16 @@
  * the call is refused, `number` and `place` give the refusal, every other field
  * but `key` is 0, and the sheet or the buffer is untouched.
  *
+ * Factors. `factors` counts the factors of all weights of the key, one for each
+ * coordinate: a cell in an array of k row bits and k' column bits counts
+ * k + k', and a call from such an array of one of K and K' bits counts
+ * (k - K) + (k' - K'). The factor that a call of edition 2 has counts nothing,
+ * and over p*p a coordinate counts one. The records of all arrays count,
+ * whether they are called or not, and the point plays no part. So the count is
+ * at most (n + n') * (cells + calls), of what morgana_check answers. Where two
+ * keys are compared, it is the sum of both keys' counts, with "same" and with
+ * "different". Integrators size their machines by it.
+ *
  * Refusals. `number` says what is at fault: it is one of MorganaNumber, which
  * lists the numbers by who is at fault. `place` says where, and the number says
  * what it counts: a place in a key is an offset from the key's first byte. Of
@@ -68,7 +78,7 @@ extern "C" {
 
 /* The version that this header belongs to, and all of it as one number. */
 #define MORGANA_VERSION_MAJOR 0
-#define MORGANA_VERSION_MINOR 3
+#define MORGANA_VERSION_MINOR 4
 #define MORGANA_VERSION_PATCH 0
 #define MORGANA_VERSION                                                        \
     (1000000 * MORGANA_VERSION_MAJOR + 1000 * MORGANA_VERSION_MINOR +          \
@@ -174,31 +184,34 @@ typedef struct MorganaCheckReply {
 
 /* What morgana_evaluate and morgana_cell answer. */
 typedef struct MorganaEvaluateReply {
-    uint32_t number; /* the number of the refusal, or 0 */
-    uint64_t place;  /* the place of the refusal, or 0 */
-    uint32_t a;      /* the last array's A */
-    uint32_t b;      /* the last array's B */
-    uint32_t c;      /* the last array's C */
+    uint32_t number;  /* the number of the refusal, or 0 */
+    uint64_t place;   /* the place of the refusal, or 0 */
+    uint32_t a;       /* the last array's A */
+    uint32_t b;       /* the last array's B */
+    uint32_t c;       /* the last array's C */
+    uint64_t factors; /* the key's count of factors; 0 where it is refused */
 } MorganaEvaluateReply;
 
 /* What morgana_evaluate_quadratic answers. */
 typedef struct MorganaQuadraticReply {
-    uint32_t number; /* the number of the refusal, or 0 */
-    uint64_t place;  /* the place of the refusal, or 0 */
-    uint32_t a_u;    /* the last array's A: u */
-    uint32_t a_v;    /* and v */
-    uint32_t b_u;    /* the last array's B: u */
-    uint32_t b_v;    /* and v */
-    uint32_t c_u;    /* the last array's C: u */
-    uint32_t c_v;    /* and v */
+    uint32_t number;  /* the number of the refusal, or 0 */
+    uint64_t place;   /* the place of the refusal, or 0 */
+    uint32_t a_u;     /* the last array's A: u */
+    uint32_t a_v;     /* and v */
+    uint32_t b_u;     /* the last array's B: u */
+    uint32_t b_v;     /* and v */
+    uint32_t c_u;     /* the last array's C: u */
+    uint32_t c_v;     /* and v */
+    uint64_t factors; /* the key's count of factors; 0 where it is refused */
 } MorganaQuadraticReply;
 
 /* What morgana_compare and morgana_compare_quadratic answer. */
 typedef struct MorganaCompareReply {
-    uint32_t number; /* the number of the refusal, or 0 */
-    uint64_t place;  /* the place of the refusal, or 0 */
-    uint32_t key;    /* the key at fault: 1 first, 2 second, 0 neither */
-    uint32_t same;   /* 1 for "same", 0 for "different" */
+    uint32_t number;  /* the number of the refusal, or 0 */
+    uint64_t place;   /* the place of the refusal, or 0 */
+    uint32_t key;     /* the key at fault: 1 first, 2 second, 0 neither */
+    uint32_t same;    /* 1 for "same", 0 for "different" */
+    uint64_t factors; /* both keys' counts of factors; 0 where it is refused */
 } MorganaCompareReply;
 
 /* What morgana_move answers. */
@@ -217,29 +230,30 @@ uint32_t morgana_version(void);
  * number, 13. */
 MorganaCheckReply morgana_check(const uint8_t *key, size_t key_length);
 
-/* Answers the last array's A, B and C at a point, and writes every array's
- * triple into the sheet, array i's at 3i; places from 3 * arrays on stay.
- * Refuses as morgana_check does, then with 21, 22, 23, 31. */
+/* Answers the last array's A, B and C at a point and the count of factors, and
+ * writes every array's triple into the sheet, array i's at 3i; places from
+ * 3 * arrays on stay. Refuses as morgana_check does, then with 21, 22, 23, 31.
+ */
 MorganaEvaluateReply morgana_evaluate(const uint8_t *key, size_t key_length,
                                       const uint32_t *rows, size_t rows_length,
                                       const uint32_t *columns,
                                       size_t columns_length,
                                       uint32_t *sheet, size_t sheet_length);
 
-/* Answers the last array's dense A, B and C at a row and a column; the sheet is
- * then as after morgana_evaluate at the point whose coordinates are the bits of
- * row and column, lowest first. Refuses as morgana_check does, then with 24,
- * 31. */
+/* Answers the last array's dense A, B and C at a row and a column and the count
+ * of factors; the sheet is then as after morgana_evaluate at the point whose
+ * coordinates are the bits of row and column, lowest first. Refuses as
+ * morgana_check does, then with 24, 31. */
 MorganaEvaluateReply morgana_cell(const uint8_t *key, size_t key_length,
                                   uint32_t row, uint32_t column,
                                   uint32_t *sheet, size_t sheet_length);
 
-/* Answers "same" if the three numbers that morgana_evaluate answers for the
- * first key at a point equal those for the second, else "different"; the sheet
- * is then as after evaluating the first key and then the second. Refuses as
- * morgana_check does for the first key, then for the second, and `key` says
- * which; then with 35, 21, 22, 23, and 31 for the key with more arrays, where
- * `key` is 0. */
+/* Answers "same" if the A, B and C that morgana_evaluate answers for the first
+ * key at a point equal those for the second, else "different", and the sum of
+ * both counts of factors; the sheet is then as after evaluating the first key
+ * and then the second. Refuses as morgana_check does for the first key, then
+ * for the second, and `key` says which; then with 35, 21, 22, 23, and 31 for
+ * the key with more arrays, where `key` is 0. */
 MorganaCompareReply morgana_compare(const uint8_t *first, size_t first_length,
                                     const uint8_t *second, size_t second_length,
                                     const uint32_t *rows, size_t rows_length,
@@ -247,20 +261,20 @@ MorganaCompareReply morgana_compare(const uint8_t *first, size_t first_length,
                                     size_t columns_length,
                                     uint32_t *sheet, size_t sheet_length);
 
-/* Answers the last array's A, B and C at a point of two numbers a coordinate,
- * and writes every array's six numbers into the sheet, array i's at 6i; places
- * from 6 * arrays on stay. Refuses as morgana_check does, then with 21, 22, 23,
- * 31. */
+/* Answers the last array's A, B and C at a point of two numbers a coordinate
+ * and the count of factors, and writes every array's six numbers into the
+ * sheet, array i's at 6i; places from 6 * arrays on stay. Refuses as
+ * morgana_check does, then with 21, 22, 23, 31. */
 MorganaQuadraticReply
 morgana_evaluate_quadratic(const uint8_t *key, size_t key_length,
                            const uint32_t *rows, size_t rows_length,
                            const uint32_t *columns, size_t columns_length,
                            uint32_t *sheet, size_t sheet_length);
 
-/* Answers "same" if the six numbers that morgana_evaluate_quadratic answers for
- * the first key at a point equal those for the second, else "different"; the
- * sheet is then as after evaluating the first key and then the second. Refuses
- * as morgana_compare does. */
+/* Answers "same" if the A, B and C that morgana_evaluate_quadratic answers for
+ * the first key at a point equal those for the second, else "different", and
+ * the sum of both counts of factors; the sheet is then as after evaluating the
+ * first key and then the second. Refuses as morgana_compare does. */
 MorganaCompareReply
 morgana_compare_quadratic(const uint8_t *first, size_t first_length,
                           const uint8_t *second, size_t second_length,

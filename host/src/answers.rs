@@ -21,10 +21,11 @@ pub struct Counts {
     pub columns: u32,
 }
 
-/// What evaluate and cell answer: the values of the key's last array. Later versions may add fields.
+/// What evaluate and cell answer: the values of the key's last array, and how many factors the key has. Later versions
+/// may add fields.
 ///
 /// ```compile_fail
-/// let morgana::Evaluated { values } = morgana::cell(&[], 0, 0, &mut [])?;
+/// let morgana::Evaluated { values, factors } = morgana::cell(&[], 0, 0, &mut [])?;
 /// # Ok::<(), morgana::Refusal>(())
 /// ```
 #[derive(Debug, Clone, Copy)]
@@ -32,6 +33,8 @@ pub struct Counts {
 pub struct Evaluated<V> {
     /// The values: [`Values`], or [`QuadraticValues`] over p².
     pub values: V,
+    /// The key's [count of factors](crate#factors), at most (n + n')·(cells + calls).
+    pub factors: u64,
 }
 
 /// The values of the three matrices at a point or in a cell.
@@ -68,11 +71,13 @@ pub struct QuadraticValues {
 /// What compare answers about two keys at a point. Later versions may add fields.
 ///
 /// ```compile_fail
-/// let compared = morgana::Compared { same: true };
+/// let compared = morgana::Compared { same: true, factors: 0 };
 /// ```
 #[derive(Debug, Clone, Copy)]
 #[non_exhaustive]
 pub struct Compared {
     /// Whether the keys have the same A, the same B and the same C there.
     pub same: bool,
+    /// The sum of both keys' [counts of factors](crate#factors), whether they are the same there or not.
+    pub factors: u64,
 }

@@ -48,8 +48,8 @@ pub fn check(key: &[u8]) -> Result<Counts, Refusal> {
     })
 }
 
-/// Answers the last array's A, B and C at a point, and writes array i's triple into the sheet at 3i; or refuses
-/// as check does, or with 21, 22, 23 or 31.
+/// Answers the last array's A, B and C at a point and the count of factors, and writes array i's triple into the sheet
+/// at 3i; or refuses as check does, or with 21, 22, 23 or 31.
 pub fn evaluate(
     key: &[u8],
     rows: &[u32],
@@ -73,8 +73,8 @@ pub fn evaluate(
     })
 }
 
-/// Answers the last array's dense A, B and C at a row and a column, the sheet as after evaluate at the point of their
-/// bits; or refuses as check does, or with 24 or 31.
+/// Answers the last array's dense A, B and C at a row and a column and the count of factors, the sheet as after evaluate
+/// at the point of their bits; or refuses as check does, or with 24 or 31.
 pub fn cell(
     key: &[u8],
     row: u32,
@@ -96,9 +96,9 @@ pub fn cell(
     })
 }
 
-/// Answers whether two keys of one shape have the same A, B and C at a point, the sheet as after evaluating the first
-/// and then the second; or refuses as check does, naming the key, or with 35, 21, 22, 23 or 31. The sheet needs three
-/// places for each array of the key with more arrays.
+/// Answers whether two keys of one shape have the same A, B and C at a point and the sum of both counts of factors, the
+/// sheet as after evaluating the first and then the second; or refuses as check does, naming the key, or with 35, 21,
+/// 22, 23 or 31. The sheet needs three places for each array of the key with more arrays.
 ///
 /// "Different" is certain; how sure "same" is at random points, [`Likelihood`](crate::Likelihood) says.
 pub fn compare(
@@ -127,9 +127,9 @@ pub fn compare(
     })
 }
 
-/// Answers the last array's A, B and C at a point whose coordinates u + v·i are two numbers each, u first, and writes
-/// array i's six numbers into the sheet at 6i; or refuses as evaluate does, with 21 and 22 where there are not 2n and
-/// 2n' numbers, and with 23 at the index of a number.
+/// Answers the last array's A, B and C at a point whose coordinates u + v·i are two numbers each, u first, and the count
+/// of factors, and writes array i's six numbers into the sheet at 6i; or refuses as evaluate does, with 21 and 22 where
+/// there are not 2n and 2n' numbers, and with 23 at the index of a number.
 pub fn evaluate_quadratic(
     key: &[u8],
     rows: &[u32],
@@ -158,12 +158,14 @@ pub fn evaluate_quadratic(
         b: element(reply.b_u, reply.b_v),
         c: element(reply.c_u, reply.c_v),
     };
-    Ok(Evaluated { values })
+    let factors = reply.factors;
+    Ok(Evaluated { values, factors })
 }
 
 /// Answers whether two keys of one shape have the same A, B and C at a point whose coordinates are two numbers each,
-/// the sheet as after evaluating the first and then the second there; or refuses as compare does, counting numbers as
-/// evaluate_quadratic does. The sheet needs six places for each array of the key with more arrays.
+/// and the sum of both counts of factors, the sheet as after evaluating the first and then the second there; or refuses
+/// as compare does, counting numbers as evaluate_quadratic does. The sheet needs six places for each array of the key
+/// with more arrays.
 pub fn compare_quadratic(
     first: &[u8],
     second: &[u8],
@@ -238,6 +240,7 @@ fn compared(reply: raw::CompareReply) -> Result<Compared, CompareRefusal> {
     refused(reply.number, reply.place).map_err(|refusal| CompareRefusal { which, refusal })?;
     Ok(Compared {
         same: reply.same == 1,
+        factors: reply.factors,
     })
 }
 
@@ -249,7 +252,8 @@ fn evaluated(reply: raw::EvaluateReply) -> Result<Evaluated<Values>, Refusal> {
         b: reply.b,
         c: reply.c,
     };
-    Ok(Evaluated { values })
+    let factors = reply.factors;
+    Ok(Evaluated { values, factors })
 }
 
 /// The refusal of a reply, if it has one: 0 is the number of no refusal.

@@ -17,9 +17,11 @@
 //! assert_eq!((counts.arrays, counts.cells, counts.calls), (1, 1, 0));
 //!
 //! let mut sheet = [0; 3];
-//! let values = morgana::evaluate(&key, &[], &[4], &mut sheet)?.values;
+//! let evaluated = morgana::evaluate(&key, &[], &[4], &mut sheet)?;
+//! let values = evaluated.values;
 //! assert_eq!((values.a, values.b, values.c), (20, 28, 0));
 //! assert_eq!(sheet, [20, 28, 0]);
+//! assert_eq!(evaluated.factors, 1);
 //!
 //! let refusal = morgana::check(&key[..4]).unwrap_err();
 //! assert_eq!(refusal.to_string(), "refused 2 at 3: record missing or cut off");
@@ -43,6 +45,15 @@
 //! evaluating the first key, then the second key's values are written over them. Places behind
 //! stay. [`SHEET`] and [`SHEET_QUADRATIC`] places suffice for every key. A refused call leaves
 //! its sheet as it was.
+//!
+//! # Factors
+//!
+//! Evaluate and cell also answer how many factors the weights of the key's cells and calls have, one for each
+//! coordinate: a cell in an array of k row bits and k' column bits has k + k', and a call from such an array of one of K
+//! and K' bits (k - K) + (k' - K'). The factor that a call of edition 2 has counts nothing, and over p² a coordinate
+//! counts one. The records of all arrays count, whether they are called or not, and the point plays no part. So the
+//! count is at most (n + n')·(cells + calls), of what [`check`] answers. Compare answers the sum of both keys' counts,
+//! with "same" and with "different". Integrators size their machines by it.
 //!
 //! # Editions
 //!

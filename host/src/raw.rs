@@ -4,6 +4,7 @@
 //! where each pointer and its length are of one slice that is lent for the call, the sheet or the
 //! buffer overlaps no other slice, and `morgana_version` answers this package's major and minor
 //! version: replies of another one may be longer. The functions of the package look at it themselves.
+//! In the reply of a refused call every field but `number`, `place` and `key` is 0.
 
 use std::mem::{offset_of, size_of};
 
@@ -41,6 +42,8 @@ pub struct EvaluateReply {
     pub b: u32,
     /// The last array's C.
     pub c: u32,
+    /// The key's count of factors.
+    pub factors: u64,
 }
 
 /// What `morgana_evaluate_quadratic` answers.
@@ -63,6 +66,8 @@ pub struct QuadraticReply {
     pub c_u: u32,
     /// The v of the last array's C.
     pub c_v: u32,
+    /// The key's count of factors.
+    pub factors: u64,
 }
 
 /// What `morgana_compare` and `morgana_compare_quadratic` answer.
@@ -77,6 +82,8 @@ pub struct CompareReply {
     pub key: u32,
     /// 1 where the answer is "same", else 0.
     pub same: u32,
+    /// The sum of both keys' counts of factors.
+    pub factors: u64,
 }
 
 /// What `morgana_move` answers.
@@ -103,16 +110,17 @@ const _: () = {
 };
 
 const _: () = {
-    assert!(size_of::<EvaluateReply>() == 32);
+    assert!(size_of::<EvaluateReply>() == 40);
     assert!(offset_of!(EvaluateReply, number) == 0);
     assert!(offset_of!(EvaluateReply, place) == 8);
     assert!(offset_of!(EvaluateReply, a) == 16);
     assert!(offset_of!(EvaluateReply, b) == 20);
     assert!(offset_of!(EvaluateReply, c) == 24);
+    assert!(offset_of!(EvaluateReply, factors) == 32);
 };
 
 const _: () = {
-    assert!(size_of::<QuadraticReply>() == 40);
+    assert!(size_of::<QuadraticReply>() == 48);
     assert!(offset_of!(QuadraticReply, number) == 0);
     assert!(offset_of!(QuadraticReply, place) == 8);
     assert!(offset_of!(QuadraticReply, a_u) == 16);
@@ -121,14 +129,16 @@ const _: () = {
     assert!(offset_of!(QuadraticReply, b_v) == 28);
     assert!(offset_of!(QuadraticReply, c_u) == 32);
     assert!(offset_of!(QuadraticReply, c_v) == 36);
+    assert!(offset_of!(QuadraticReply, factors) == 40);
 };
 
 const _: () = {
-    assert!(size_of::<CompareReply>() == 24);
+    assert!(size_of::<CompareReply>() == 32);
     assert!(offset_of!(CompareReply, number) == 0);
     assert!(offset_of!(CompareReply, place) == 8);
     assert!(offset_of!(CompareReply, key) == 16);
     assert!(offset_of!(CompareReply, same) == 20);
+    assert!(offset_of!(CompareReply, factors) == 24);
 };
 
 const _: () = {

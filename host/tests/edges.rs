@@ -10,6 +10,8 @@ mod written;
 mod comparisons;
 #[path = "edges/editions.rs"]
 mod editions;
+#[path = "edges/factors.rs"]
+mod factors;
 #[path = "edges/fields.rs"]
 mod fields;
 #[path = "edges/full.rs"]

@@ -18,14 +18,15 @@ LAYOUT(MorganaCheckReply, calls, 24);
 LAYOUT(MorganaCheckReply, rows, 28);
 LAYOUT(MorganaCheckReply, columns, 32);
 
-_Static_assert(sizeof(MorganaEvaluateReply) == 32, "size of MorganaEvaluateReply");
+_Static_assert(sizeof(MorganaEvaluateReply) == 40, "size of MorganaEvaluateReply");
 LAYOUT(MorganaEvaluateReply, number, 0);
 LAYOUT(MorganaEvaluateReply, place, 8);
 LAYOUT(MorganaEvaluateReply, a, 16);
 LAYOUT(MorganaEvaluateReply, b, 20);
 LAYOUT(MorganaEvaluateReply, c, 24);
+LAYOUT(MorganaEvaluateReply, factors, 32);
 
-_Static_assert(sizeof(MorganaQuadraticReply) == 40, "size of MorganaQuadraticReply");
+_Static_assert(sizeof(MorganaQuadraticReply) == 48, "size of MorganaQuadraticReply");
 LAYOUT(MorganaQuadraticReply, number, 0);
 LAYOUT(MorganaQuadraticReply, place, 8);
 LAYOUT(MorganaQuadraticReply, a_u, 16);
@@ -34,12 +35,14 @@ LAYOUT(MorganaQuadraticReply, b_u, 24);
 LAYOUT(MorganaQuadraticReply, b_v, 28);
 LAYOUT(MorganaQuadraticReply, c_u, 32);
 LAYOUT(MorganaQuadraticReply, c_v, 36);
+LAYOUT(MorganaQuadraticReply, factors, 40);
 
-_Static_assert(sizeof(MorganaCompareReply) == 24, "size of MorganaCompareReply");
+_Static_assert(sizeof(MorganaCompareReply) == 32, "size of MorganaCompareReply");
 LAYOUT(MorganaCompareReply, number, 0);
 LAYOUT(MorganaCompareReply, place, 8);
 LAYOUT(MorganaCompareReply, key, 16);
 LAYOUT(MorganaCompareReply, same, 20);
+LAYOUT(MorganaCompareReply, factors, 24);
 
 _Static_assert(sizeof(MorganaMoveReply) == 24, "size of MorganaMoveReply");
 LAYOUT(MorganaMoveReply, number, 0);
@@ -77,6 +80,7 @@ static void evaluated(int line, MorganaEvaluateReply got, MorganaEvaluateReply w
     want(line, "a", wanted.a, got.a);
     want(line, "b", wanted.b, got.b);
     want(line, "c", wanted.c, got.c);
+    want(line, "factors", wanted.factors, got.factors);
 }
 
 static void quadratic(int line, MorganaQuadraticReply got, MorganaQuadraticReply wanted)
@@ -89,6 +93,7 @@ static void quadratic(int line, MorganaQuadraticReply got, MorganaQuadraticReply
     want(line, "b_v", wanted.b_v, got.b_v);
     want(line, "c_u", wanted.c_u, got.c_u);
     want(line, "c_v", wanted.c_v, got.c_v);
+    want(line, "factors", wanted.factors, got.factors);
 }
 
 static void compared(int line, MorganaCompareReply got, MorganaCompareReply wanted)
@@ -97,6 +102,7 @@ static void compared(int line, MorganaCompareReply got, MorganaCompareReply want
     want(line, "place", wanted.place, got.place);
     want(line, "key", wanted.key, got.key);
     want(line, "same", wanted.same, got.same);
+    want(line, "factors", wanted.factors, got.factors);
 }
 
 static void moved(int line, MorganaMoveReply got, MorganaMoveReply wanted)
@@ -190,6 +196,10 @@ static const uint8_t sample[54] = {
     6,
 };
 enum { LENGTH = 53 };
+
+/* Its count of factors, and that of the same key in edition 2: the cell counts 1, and so does each
+ * of the two calls. */
+enum { FACTORS = 3 };
 
 /* The sample in edition 2, with a byte behind it, and the same with factors -1 and 3. */
 static const uint8_t scaled[62] = {
@@ -318,16 +328,16 @@ static void arrays_limit(void)
     size_t length = arrays_of(MORGANA_MOST_ARRAYS, key);
     CHECK(key, length, 0, 0, MORGANA_MOST_ARRAYS, 0, 0, 0, 0);
 #define ON(places) NULL, 0, NULL, 0, lent_sheet, places
-    EVALUATED(morgana_evaluate(key, length, ON(MORGANA_SHEET)), 0, 0, 0, 0, 0);
+    EVALUATED(morgana_evaluate(key, length, ON(MORGANA_SHEET)), 0, 0, 0, 0, 0, 0);
     EVALUATED(morgana_evaluate(key, length, ON(MORGANA_SHEET - 1)),
               REFUSED(MORGANA_SHEET_TOO_SHORT, MORGANA_SHEET));
-    COMPARED(morgana_compare(key, length, key, length, ON(MORGANA_SHEET)), 0, 0, 0, 1);
+    COMPARED(morgana_compare(key, length, key, length, ON(MORGANA_SHEET)), 0, 0, 0, 1, 0);
     QUADRATIC(morgana_evaluate_quadratic(key, length, ON(MORGANA_SHEET_QUADRATIC)),
-              0, 0, 0, 0, 0, 0, 0, 0);
+              0, 0, 0, 0, 0, 0, 0, 0, 0);
     QUADRATIC(morgana_evaluate_quadratic(key, length, ON(MORGANA_SHEET_QUADRATIC - 1)),
               REFUSED(MORGANA_SHEET_TOO_SHORT, MORGANA_SHEET_QUADRATIC));
     COMPARED(morgana_compare_quadratic(key, length, key, length, ON(MORGANA_SHEET_QUADRATIC)),
-             0, 0, 0, 1);
+             0, 0, 0, 1, 0);
     length = arrays_of(MORGANA_MOST_ARRAYS + 1, key);
     CHECK(key, length, REFUSED(MORGANA_ARRAYS_TOO_MANY, length - 4));
 }
@@ -388,16 +398,16 @@ static void check_calls(void)
 static void evaluate_calls(void)
 {
     EVALUATED(morgana_evaluate(sample, LENGTH, three, 1, four, 1, sheet, PLACES),
-              0, 0, 2147483567, 2147483535, 0);
+              0, 0, 2147483567, 2147483535, 0, FACTORS);
     SHEET(20, 28, 0, 2147483567, 2147483535, 0);
     EVALUATED(morgana_evaluate(sample, LENGTH, three, 1, four, 1, sheet, 6),
-              0, 0, 2147483567, 2147483535, 0);
+              0, 0, 2147483567, 2147483535, 0, FACTORS);
     SHEET(20, 28, 0, 2147483567, 2147483535, 0);
     EVALUATED(morgana_evaluate(negated, sizeof negated, three, 1, four, 1, sheet, PLACES),
-              0, 0, 2147483567, 2147483535, 0);
+              0, 0, 2147483567, 2147483535, 0, FACTORS);
     SHEET(20, 28, 0, 2147483567, 2147483535, 0);
     EVALUATED(morgana_evaluate(single, sizeof single, NULL, 0, NULL, 0, sheet, PLACES),
-              0, 0, 1, 2, 3);
+              0, 0, 1, 2, 3, 0);
     SHEET(1, 2, 3);
     EVALUATED(morgana_evaluate(NULL, 0, NULL, 0, NULL, 0, NULL, 0),
               REFUSED(MORGANA_RECORD_INCOMPLETE, 0));
@@ -425,11 +435,12 @@ static void evaluate_calls(void)
 
 static void cell_calls(void)
 {
-    EVALUATED(morgana_cell(sample, LENGTH, 0, 1, sheet, PLACES), 0, 0, 10, 14, 0);
+    EVALUATED(morgana_cell(sample, LENGTH, 0, 1, sheet, PLACES), 0, 0, 10, 14, 0, FACTORS);
     SHEET(5, 7, 0, 10, 14, 0);
-    EVALUATED(morgana_cell(negated, sizeof negated, 0, 1, sheet, PLACES), 0, 0, 10, 14, 0);
+    EVALUATED(morgana_cell(negated, sizeof negated, 0, 1, sheet, PLACES),
+              0, 0, 10, 14, 0, FACTORS);
     SHEET(5, 7, 0, 10, 14, 0);
-    EVALUATED(morgana_cell(sample, LENGTH, 1, 1, sheet, 6), 0, 0, 0, 0, 0);
+    EVALUATED(morgana_cell(sample, LENGTH, 1, 1, sheet, 6), 0, 0, 0, 0, 0, FACTORS);
     SHEET(5, 7, 0, 0, 0, 0);
     EVALUATED(morgana_cell(NULL, 0, 0, 0, NULL, 0), REFUSED(MORGANA_RECORD_INCOMPLETE, 0));
     EVALUATED(morgana_cell(sample, LENGTH + 1, 2, 2, sheet, 0),
@@ -453,17 +464,19 @@ static void compare_calls(void)
                 columns_length, length, ...) \
     COMPARED(morgana_compare(first, first_length, second, second_length, rows, rows_length, \
                              columns, columns_length, sheet, length), __VA_ARGS__)
-    COMPARE(sample, LENGTH, sample, LENGTH, three, 1, four, 1, PLACES, 0, 0, 0, 1);
+    COMPARE(sample, LENGTH, sample, LENGTH, three, 1, four, 1, PLACES, 0, 0, 0, 1, 2 * FACTORS);
     SHEET(20, 28, 0, 2147483567, 2147483535, 0);
-    COMPARE(sample, LENGTH, negated, sizeof negated, three, 1, four, 1, PLACES, 0, 0, 0, 1);
+    COMPARE(sample, LENGTH, negated, sizeof negated, three, 1, four, 1, PLACES,
+            0, 0, 0, 1, 2 * FACTORS);
     SHEET(20, 28, 0, 2147483567, 2147483535, 0);
-    COMPARE(scaled, SCALED_LENGTH, other, LENGTH, three, 1, four, 1, PLACES, 0, 0, 0, 0);
+    COMPARE(scaled, SCALED_LENGTH, other, LENGTH, three, 1, four, 1, PLACES,
+            0, 0, 0, 0, 2 * FACTORS);
     SHEET(24, 28, 0, 2147483551, 2147483535, 0);
-    COMPARE(sample, LENGTH, other, LENGTH, three, 1, four, 1, 6, 0, 0, 0, 0);
+    COMPARE(sample, LENGTH, other, LENGTH, three, 1, four, 1, 6, 0, 0, 0, 0, 2 * FACTORS);
     SHEET(24, 28, 0, 2147483551, 2147483535, 0);
-    COMPARE(sample, LENGTH, empty, sizeof empty, three, 1, four, 1, PLACES, 0, 0, 0, 0);
+    COMPARE(sample, LENGTH, empty, sizeof empty, three, 1, four, 1, PLACES, 0, 0, 0, 0, FACTORS);
     SHEET(0, 0, 0, 2147483567, 2147483535, 0);
-    COMPARE(single, sizeof single, single, sizeof single, NULL, 0, NULL, 0, PLACES, 0, 0, 0, 1);
+    COMPARE(single, sizeof single, single, sizeof single, NULL, 0, NULL, 0, PLACES, 0, 0, 0, 1, 0);
     SHEET(1, 2, 3);
     COMPARE(unknown, 1, NULL, 0, NULL, 0, NULL, 0, 0, REFUSED(MORGANA_KIND_UNKNOWN, 0), .key = 1);
     UNTOUCHED();
@@ -494,15 +507,15 @@ static void evaluate_quadratic_calls(void)
                                          columns_length, sheet, length), __VA_ARGS__)
     /* 5 and 7 times -1 - i, and both times 2 * (1 - i): -20 and -28. */
     EVALUATE(sample, LENGTH, imaginary, 2, greatest, 2, PLACES,
-             0, 0, 2147483627, 0, 2147483619, 0, 0, 0);
+             0, 0, 2147483627, 0, 2147483619, 0, 0, 0, FACTORS);
     SHEET(2147483642, 2147483642, 2147483640, 2147483640, 0, 0, 2147483627, 0, 2147483619, 0, 0, 0);
     EVALUATE(negated, sizeof negated, imaginary, 2, greatest, 2, PLACES,
-             0, 0, 2147483627, 0, 2147483619, 0, 0, 0);
+             0, 0, 2147483627, 0, 2147483619, 0, 0, 0, FACTORS);
     SHEET(2147483642, 2147483642, 2147483640, 2147483640, 0, 0, 2147483627, 0, 2147483619, 0, 0, 0);
     EVALUATE(sample, LENGTH, three_zero, 2, four_zero, 2, 12,
-             0, 0, 2147483567, 0, 2147483535, 0, 0, 0);
+             0, 0, 2147483567, 0, 2147483535, 0, 0, 0, FACTORS);
     SHEET(20, 0, 28, 0, 0, 0, 2147483567, 0, 2147483535, 0, 0, 0);
-    EVALUATE(single, sizeof single, NULL, 0, NULL, 0, PLACES, 0, 0, 1, 0, 2, 0, 3, 0);
+    EVALUATE(single, sizeof single, NULL, 0, NULL, 0, PLACES, 0, 0, 1, 0, 2, 0, 3, 0, 0);
     SHEET(1, 0, 2, 0, 3, 0);
     QUADRATIC(morgana_evaluate_quadratic(NULL, 0, NULL, 0, NULL, 0, NULL, 0),
               REFUSED(MORGANA_RECORD_INCOMPLETE, 0));
@@ -536,15 +549,16 @@ static void compare_quadratic_calls(void)
                                        rows_length, columns, columns_length, sheet, length), \
              __VA_ARGS__)
     COMPARE_QUADRATIC(sample, LENGTH, sample, LENGTH, imaginary, 2, greatest, 2, PLACES,
-                      0, 0, 0, 1);
+                      0, 0, 0, 1, 2 * FACTORS);
     SHEET(2147483642, 2147483642, 2147483640, 2147483640, 0, 0, 2147483627, 0, 2147483619, 0, 0, 0);
     COMPARE_QUADRATIC(negated, sizeof negated, sample, LENGTH, imaginary, 2, greatest, 2, PLACES,
-                      0, 0, 0, 1);
+                      0, 0, 0, 1, 2 * FACTORS);
     SHEET(2147483642, 2147483642, 2147483640, 2147483640, 0, 0, 2147483627, 0, 2147483619, 0, 0, 0);
-    COMPARE_QUADRATIC(sample, LENGTH, other, LENGTH, imaginary, 2, greatest, 2, 12, 0, 0, 0, 0);
+    COMPARE_QUADRATIC(sample, LENGTH, other, LENGTH, imaginary, 2, greatest, 2, 12,
+                      0, 0, 0, 0, 2 * FACTORS);
     SHEET(2147483641, 2147483641, 2147483640, 2147483640, 0, 0, 2147483623, 0, 2147483619, 0, 0, 0);
     COMPARE_QUADRATIC(sample, LENGTH, empty, sizeof empty, imaginary, 2, greatest, 2, PLACES,
-                      0, 0, 0, 0);
+                      0, 0, 0, 0, FACTORS);
     SHEET(0, 0, 0, 0, 0, 0, 2147483627, 0, 2147483619, 0, 0, 0);
     COMPARE_QUADRATIC(unknown, 1, NULL, 0, NULL, 0, NULL, 0, 0,
                       REFUSED(MORGANA_KIND_UNKNOWN, 0), .key = 1);

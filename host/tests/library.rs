@@ -10,6 +10,9 @@ const SAMPLE: [u8; 53] = [
     0, 0, 0, 0, 0, 0, 0, 0, 0, 5, 0, 0, 0, 0, 0, 0, 0, 0, 0, 0, 6,
 ];
 
+/// The sample's count of factors, in either edition: the cell counts 1, and so does each call.
+const FACTORS: u64 = 3;
+
 /// The sample in edition 2, with these factors.
 fn scaled(first: u32, second: u32) -> Vec<u8> {
     let mut key = SAMPLE[..30].to_vec();
@@ -22,7 +25,7 @@ fn scaled(first: u32, second: u32) -> Vec<u8> {
     key
 }
 
-/// A key of the sample's shape whose matrices are zero.
+/// A key of the sample's shape whose matrices are zero, without cells and calls.
 const EMPTY: [u8; 7] = [1, 1, 1, 2, 1, 1, 6];
 
 /// What stands on the sheet before a call.
@@ -33,16 +36,19 @@ fn told(refusal: Refusal) -> (u32, u64) {
     (refusal.number, refusal.place)
 }
 
-/// Compare's answer: whether the keys are the same, or the key at fault with the refusal.
-fn compared(answer: Result<Compared, CompareRefusal>) -> Result<bool, (Which, (u32, u64))> {
+/// Whether keys are the same with their factors, or the key at fault with the refusal.
+type Told = Result<(bool, u64), (Which, (u32, u64))>;
+
+/// Compare's answer.
+fn compared(answer: Result<Compared, CompareRefusal>) -> Told {
     match answer {
-        Ok(compared) => Ok(compared.same),
+        Ok(compared) => Ok((compared.same, compared.factors)),
         Err(refused) => Err((refused.which, told(refused.refusal))),
     }
 }
 
 /// A refusal of compare that names neither key.
-fn neither(told: (u32, u64)) -> Result<bool, (Which, (u32, u64))> {
+fn neither(told: (u32, u64)) -> Told {
     Err((Which::Neither, told))
 }
 
@@ -96,10 +102,10 @@ fn the_limits_are_the_library_s() {
 fn evaluate_answers_values_and_writes_the_sheet() {
     let mut sheet = LENT;
     let (a, b, c) = (2147483567, 2147483535, 0);
-    let values = evaluate(&SAMPLE, &[3], &[4], &mut sheet)
-        .expect("the point fits")
-        .values;
+    let answer = evaluate(&SAMPLE, &[3], &[4], &mut sheet).expect("the point fits");
+    let values = answer.values;
     assert_eq!((values.a, values.b, values.c), (a, b, c));
+    assert_eq!(answer.factors, FACTORS);
     assert_eq!(sheet, [20, 28, 0, a, b, c, 107, 108]);
 }
 
@@ -107,10 +113,10 @@ fn evaluate_answers_values_and_writes_the_sheet() {
 fn cell_answers_values_and_writes_the_sheet() {
     let mut sheet = LENT;
     let (a, b, c) = (10, 14, 0);
-    let values = cell(&SAMPLE, 0, 1, &mut sheet)
-        .expect("the cell is there")
-        .values;
+    let answer = cell(&SAMPLE, 0, 1, &mut sheet).expect("the cell is there");
+    let values = answer.values;
     assert_eq!((values.a, values.b, values.c), (a, b, c));
+    assert_eq!(answer.factors, FACTORS);
     assert_eq!(sheet, [5, 7, 0, a, b, c, 107, 108]);
 }
 
@@ -118,27 +124,27 @@ fn cell_answers_values_and_writes_the_sheet() {
 fn compare_answers_and_leaves_the_second_key_over_the_first() {
     let mut sheet = LENT;
     let same = compare(&SAMPLE, &SAMPLE, &[3], &[4], &mut sheet);
-    assert_eq!(compared(same), Ok(true));
+    assert_eq!(compared(same), Ok((true, 2 * FACTORS)));
     let different = compare(&SAMPLE, &EMPTY, &[3], &[4], &mut sheet);
-    assert_eq!(compared(different), Ok(false));
+    assert_eq!(compared(different), Ok((false, FACTORS)));
     assert_eq!(sheet, [0, 0, 0, 2147483567, 2147483535, 0, 107, 108]);
 }
 
 #[test]
 fn both_parts_have_their_names() {
     let mut sheet = [9; 13];
-    let values = evaluate_quadratic(&SAMPLE, &[3, 1], &[4, 2], &mut sheet)
-        .expect("it fits")
-        .values;
+    let answer = evaluate_quadratic(&SAMPLE, &[3, 1], &[4, 2], &mut sheet).expect("it fits");
+    let values = answer.values;
+    assert_eq!(answer.factors, FACTORS);
     // 2·(4 + 2i)·(1 - 3 - i) is -12 - 16i.
     let parts = [values.a, values.b, values.c].map(|element| (element.u, element.v));
     assert_eq!(parts, [(P - 60, P - 80), (P - 84, P - 112), (0, 0)]);
     assert_eq!(sheet[..6], [20, 10, 28, 14, 0, 0]);
     assert_eq!(sheet[6..], [P - 60, P - 80, P - 84, P - 112, 0, 0, 9]);
     let same = compare_quadratic(&SAMPLE, &SAMPLE, &[3, 1], &[4, 2], &mut sheet);
-    assert_eq!(compared(same), Ok(true));
+    assert_eq!(compared(same), Ok((true, 2 * FACTORS)));
     let different = compare_quadratic(&SAMPLE, &EMPTY, &[3, 1], &[4, 2], &mut sheet);
-    assert_eq!(compared(different), Ok(false));
+    assert_eq!(compared(different), Ok((false, FACTORS)));
     assert_eq!(sheet[..6], [0; 6]);
 }
 
@@ -256,19 +262,20 @@ fn every_call_takes_both_editions() {
     let mut sheet = LENT;
     let scaled = scaled(P - 1, 3);
     assert_eq!(check(&scaled), check(&SAMPLE));
-    let values = evaluate(&scaled, &[3], &[4], &mut sheet).expect("the point fits");
-    assert_eq!(values.values.a, 2147483567);
+    let answer = evaluate(&scaled, &[3], &[4], &mut sheet).expect("the point fits");
+    assert_eq!((answer.values.a, answer.factors), (2147483567, FACTORS));
     assert_eq!(sheet[..6], [20, 28, 0, 2147483567, 2147483535, 0]);
-    let values = cell(&scaled, 0, 1, &mut sheet).expect("the cell is there");
-    assert_eq!(values.values.b, 14);
+    let answer = cell(&scaled, 0, 1, &mut sheet).expect("the cell is there");
+    assert_eq!((answer.values.b, answer.factors), (14, FACTORS));
     for (first, second) in [(&SAMPLE[..], &scaled[..]), (&scaled, &SAMPLE)] {
         let same = compare(first, second, &[3], &[4], &mut sheet);
-        assert_eq!(compared(same), Ok(true));
+        assert_eq!(compared(same), Ok((true, 2 * FACTORS)));
         let same = compare_quadratic(first, second, &[3, 1], &[4, 2], &mut [0; 12]);
-        assert_eq!(compared(same), Ok(true));
+        assert_eq!(compared(same), Ok((true, 2 * FACTORS)));
     }
     let different = compare(&scaled, &EMPTY, &[3], &[4], &mut sheet);
-    assert_eq!(compared(different), Ok(false));
-    let values = evaluate_quadratic(&scaled, &[3, 1], &[4, 2], &mut [0; 12]).expect("it fits");
-    assert_eq!((values.values.a.u, values.values.a.v), (P - 60, P - 80));
+    assert_eq!(compared(different), Ok((false, FACTORS)));
+    let answer = evaluate_quadratic(&scaled, &[3, 1], &[4, 2], &mut [0; 12]).expect("it fits");
+    let a = answer.values.a;
+    assert_eq!((a.u, a.v, answer.factors), (P - 60, P - 80, FACTORS));
 }

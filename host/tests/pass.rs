@@ -17,7 +17,7 @@ use independent::calls::{self, matrix_values, pass_values, place_values};
 use independent::dense::unroll_places;
 use independent::edition::moved;
 use independent::field::{elements, Field, Fp, Quadratic};
-use independent::key::{read, Key};
+use independent::key::{factors, read, Key};
 use independent::pass;
 use independent::pass::factors::Factors;
 use independent::pass::tables::Tables;
@@ -148,7 +148,8 @@ fn field_of_p_squared() {
     }
 }
 
-/// A moved key has the same arrays, and so every array has the same values; there and back gives the first bytes.
+/// A moved key has the same arrays, and so every array has the same values and the key the same factors; there and back
+/// gives the first bytes.
 #[test]
 fn moved_keys_have_the_same_values() {
     let wanted = outcomes(&["accepted"], &[("refused", 1..=1), ("refused", 55..=56)]);
@@ -168,6 +169,7 @@ fn moved_keys_have_the_same_values() {
         let got = pass_values::<Factors<Fp>>(copy, &other, &rows, &columns);
         let wanted = pass_values::<Factors<Fp>>(&key, &one, &rows, &columns);
         case.hold("values", got, wanted);
+        case.hold("factors", pass::factors(copy), pass::factors(&key));
         let mut back = vec![0; key.len()];
         case.hold("moved back", moved(copy, &mut back), Ok(key.len()));
         case.hold("there and back", &back, &key);
@@ -175,15 +177,17 @@ fn moved_keys_have_the_same_values() {
     });
 }
 
-/// The check written for speed answers as the plain one.
+/// The check written for speed answers as the plain one, and the pass takes as many factors as the records have.
 #[test]
-fn fast_check_agrees() {
+fn fast_check_and_factors_agree() {
     let wanted = outcomes(&["accepted"], &[("refused", 1..=13)]);
     run("fast check", 8_000, &wanted, |random| {
         let key = mostly_damaged(random);
         let answer = calls::check(&key);
         let mut case = Case::new(&[&key], String::new(), outcome(&answer));
         case.hold("fast check", pass::check(&key), answer);
+        let wanted = read(&key).map(|key| factors(&key));
+        case.hold("factors that the pass takes", pass::factors(&key), wanted);
         case
     });
 }
@@ -229,19 +233,25 @@ fn fast_calls_agree<F: Passed>() {
             format!("{rows:?} {columns:?} {lent:?}"),
             compare_outcome(&answer),
         );
+        let same = answer.map(|answer| answer.same);
         let got = pass::compare::<Factors<F>>(&first, &second, &rows, &columns, &mut fast);
-        case.hold("compare by factors", got, answer);
+        case.hold("compare by factors", got, same);
         case.hold("its sheet", &fast, &plain);
         let mut fast = lent.clone();
         let got = pass::compare::<Tables<F>>(&first, &second, &rows, &columns, &mut fast);
-        case.hold("compare by tables", got, answer);
+        case.hold("compare by tables", got, same);
         case.hold("its sheet", &fast, &plain);
+        if let Ok(answer) = answer {
+            let taken = [&first, &second].map(|key| pass::factors(key).expect("it is accepted"));
+            case.hold("factors of both", taken[0] + taken[1], answer.factors);
+        }
         let answer = calls::evaluate::<F>(&first, &rows, &columns, &mut plain);
+        let values = answer.map(|answer| answer.values);
         let got = pass::evaluate::<Factors<F>>(&first, &rows, &columns, &mut fast);
-        case.hold("evaluate by factors", got, answer);
+        case.hold("evaluate by factors", got, values);
         case.hold("its sheet", &fast, &plain);
         let got = pass::evaluate::<Tables<F>>(&first, &rows, &columns, &mut fast);
-        case.hold("evaluate by tables", got, answer);
+        case.hold("evaluate by tables", got, values);
         case.hold("its sheet", &fast, &plain);
         case
     });

@@ -24,6 +24,7 @@ typedef struct Key {
     uint8_t row_bits, column_bits;
     uint32_t factor; /* of each call in edition 2; 0 in edition 1 */
     size_t calls;
+    uint64_t factors; /* the count that the calls answer where the key is not refused */
     size_t length;
     uint8_t bytes[MORGANA_KEY_LIMIT + 1];
 } Key;
@@ -48,8 +49,10 @@ static uint32_t spread(int i, int bits)
     return (uint32_t)((uint64_t)((uint32_t)i * 2654435761u) >> (32 - bits));
 }
 
+/* Cells in an array of all bits. */
 static void cells(Key *key, int count)
 {
+    key->factors += (uint64_t)count * (key->row_bits + key->column_bits);
     for (int i = 0; i < count; i++) {
         put(key, 4, 1);
         put(key, spread(i, key->row_bits), 4);
@@ -59,8 +62,10 @@ static void cells(Key *key, int count)
     }
 }
 
-static void calls(Key *key, int count, uint16_t called)
+/* Calls from an array that has so many more row and column bits together than the called one. */
+static void calls(Key *key, int count, uint16_t called, uint64_t more_bits)
 {
+    key->factors += (uint64_t)count * more_bits;
     for (int i = 0; i < count; i++, key->calls++) {
         put(key, key->factor != 0 ? 8 : 5, 1);
         put(key, called, 2);
@@ -121,7 +126,7 @@ static Key *of_calls(const char *name, int empty, int count, uint32_t factor)
     empties(key, empty);
     opening(key, 2, 0, 0);
     opening(key, 3, MORGANA_MOST_BITS, MORGANA_MOST_BITS);
-    calls(key, count, (uint16_t)empty);
+    calls(key, count, (uint16_t)empty, 2 * MORGANA_MOST_BITS);
     put(key, 6, 1);
     return key;
 }
@@ -137,7 +142,7 @@ static void tower(const char *name, uint32_t factor)
         put(key, field < 2 ? 0 : field, 4);
     for (uint8_t level = 1; level <= MORGANA_MOST_BITS; level++) {
         opening(key, 3, level, level);
-        calls(key, 4, level - 1);
+        calls(key, 4, level - 1, 2);
     }
     put(key, 6, 1);
 }
@@ -217,49 +222,64 @@ static void lend(const Key *key, size_t numbers, int fault)
     sheet_length = fault == SHEET_WRONG ? 1 : MORGANA_SHEET_QUADRATIC;
 }
 
-/* The calls, each on the keys that are lent. They give the number of the refusal. */
+/* What a call gives: the number of the refusal, and the count of factors where it has one. */
+typedef struct Got {
+    uint32_t number;
+    uint64_t factors;
+} Got;
+
+/* The calls, each on the keys that are lent. */
 static const Key *first, *second;
 static uint32_t row;
-static uint32_t got;
+static Got got;
 
 static void check(void)
 {
-    got = morgana_check(first->bytes, first->length).number;
+    got.number = morgana_check(first->bytes, first->length).number;
 }
 
 static void evaluate(void)
 {
-    got = morgana_evaluate(first->bytes, first->length, rows, rows_length, columns,
-                           columns_length, sheet, sheet_length).number;
+    MorganaEvaluateReply reply =
+        morgana_evaluate(first->bytes, first->length, rows, rows_length, columns, columns_length,
+                         sheet, sheet_length);
+    got = (Got){reply.number, reply.factors};
 }
 
 static void evaluate_quadratic(void)
 {
-    got = morgana_evaluate_quadratic(first->bytes, first->length, rows, rows_length, columns,
-                                     columns_length, sheet, sheet_length).number;
+    MorganaQuadraticReply reply =
+        morgana_evaluate_quadratic(first->bytes, first->length, rows, rows_length, columns,
+                                   columns_length, sheet, sheet_length);
+    got = (Got){reply.number, reply.factors};
 }
 
 static void cell(void)
 {
-    got = morgana_cell(first->bytes, first->length, row, 0, sheet, sheet_length).number;
+    MorganaEvaluateReply reply =
+        morgana_cell(first->bytes, first->length, row, 0, sheet, sheet_length);
+    got = (Got){reply.number, reply.factors};
 }
 
 static void move(void)
 {
-    got = morgana_move(first->bytes, first->length, buffer, buffer_length).number;
+    got.number = morgana_move(first->bytes, first->length, buffer, buffer_length).number;
 }
 
 static void compare(void)
 {
-    got = morgana_compare(first->bytes, first->length, second->bytes, second->length, rows,
-                          rows_length, columns, columns_length, sheet, sheet_length).number;
+    MorganaCompareReply reply =
+        morgana_compare(first->bytes, first->length, second->bytes, second->length, rows,
+                        rows_length, columns, columns_length, sheet, sheet_length);
+    got = (Got){reply.number, reply.factors};
 }
 
 static void compare_quadratic(void)
 {
-    got = morgana_compare_quadratic(first->bytes, first->length, second->bytes, second->length,
-                                    rows, rows_length, columns, columns_length, sheet,
-                                    sheet_length).number;
+    MorganaCompareReply reply =
+        morgana_compare_quadratic(first->bytes, first->length, second->bytes, second->length, rows,
+                                  rows_length, columns, columns_length, sheet, sheet_length);
+    got = (Got){reply.number, reply.factors};
 }
 
 /* The bytes of stack that a call needs. */
@@ -272,6 +292,7 @@ typedef struct Call {
     const char *name;
     void (*run)(void);
     size_t numbers; /* of a coordinate */
+    int counted;    /* the keys whose factors its reply counts */
     Need most;
     const Key *first, *second;
 } Call;
@@ -279,12 +300,12 @@ typedef struct Call {
 enum { CHECK, CELL, MOVE, EVALUATE, EVALUATE_QUADRATIC, COMPARE, COMPARE_QUADRATIC, CALLS };
 static Call all[CALLS] = {
     {.name = "morgana_check", .run = check, .numbers = 1},
-    {.name = "morgana_cell", .run = cell, .numbers = 1},
+    {.name = "morgana_cell", .run = cell, .numbers = 1, .counted = 1},
     {.name = "morgana_move", .run = move, .numbers = 1},
-    {.name = "morgana_evaluate", .run = evaluate, .numbers = 1},
-    {.name = "morgana_evaluate_quadratic", .run = evaluate_quadratic, .numbers = 2},
-    {.name = "morgana_compare", .run = compare, .numbers = 1},
-    {.name = "morgana_compare_quadratic", .run = compare_quadratic, .numbers = 2},
+    {.name = "morgana_evaluate", .run = evaluate, .numbers = 1, .counted = 1},
+    {.name = "morgana_evaluate_quadratic", .run = evaluate_quadratic, .numbers = 2, .counted = 1},
+    {.name = "morgana_compare", .run = compare, .numbers = 1, .counted = 2},
+    {.name = "morgana_compare_quadratic", .run = compare_quadratic, .numbers = 2, .counted = 2},
 };
 
 /* Ends the program where something is not as wanted. */
@@ -322,7 +343,7 @@ static size_t need(void (*run)(void))
 /* What the process of a case tells the one that started it. */
 typedef struct Told {
     Need need;
-    uint32_t number;
+    Got got;
 } Told;
 
 /* Runs a call in a process of its own. */
@@ -335,7 +356,7 @@ static Told run_apart(const Call *call)
     if (child == 0) {
         told->need.at_first = need(call->run);
         told->need.again = need(call->run);
-        told->number = got;
+        told->got = got;
         _exit(EXIT_SUCCESS);
     }
     int status = 1;
@@ -344,12 +365,23 @@ static Told run_apart(const Call *call)
     return *told;
 }
 
-/* Wants a call to give the number and to keep to the stack, and counts what it needs. */
+/* The count of factors in the reply of a call that gives a number. */
+static uint64_t factors_of(const Call *call, uint32_t number)
+{
+    uint64_t one = call->counted > 0 ? first->factors : 0;
+    uint64_t other = call->counted > 1 ? second->factors : 0;
+    return number != 0 ? 0 : one + other;
+}
+
+/* Wants a call to give the number and the count of factors and to keep to the stack, and counts
+ * what it needs. */
 static void hold(Call *call, uint32_t wanted)
 {
     Told told = run_apart(call);
-    if (told.number != wanted)
-        fail(call->name, "number", wanted, told.number);
+    if (told.got.number != wanted)
+        fail(call->name, "number", wanted, told.got.number);
+    if (told.got.factors != factors_of(call, wanted))
+        fail(call->name, "factors", factors_of(call, wanted), told.got.factors);
     if (told.need.at_first > MORGANA_STACK)
         fail(call->name, "bytes of stack at most", MORGANA_STACK, told.need.at_first);
     if (told.need.again > call->most.again)

@@ -3,10 +3,11 @@ that it must print.
 """
 
 import itertools
+import re
 import struct
 
 from tests.draw.numbers import numbered
-from tests.model.calls import arithmetic, cell, check, compare, evaluate, move, put, take, valued
+from tests.model.calls import arithmetic, cell, check, compare, evaluate, move, put, take, written
 from tests.model.fields import PRIME
 from tests.model.keys import read
 from tests.model.records import LAYOUT, Refusal
@@ -60,10 +61,18 @@ def laid(first, second):
 
 
 def settled(wanted, sheet):
-    """The outcome that is worded, a refusal or each array's A, B and C, or None where none is."""
+    """The outcome that is worded, a refusal or each array's A, B and C, without its count of factors, or None where none is."""
     if wanted is None:
         return None
-    return outcome(wanted, sheet) if isinstance(wanted, str) else valued(wanted[-1], wanted, sheet)
+    if isinstance(wanted, str):
+        return outcome(wanted, sheet)
+    return outcome(" ".join(map(str, wanted[-1])), written(wanted, sheet))
+
+
+def uncounted(answer):
+    """An answer in words without its count of factors, and the count, or None where there is none."""
+    said, *count = re.split(r" factors (\d+)", answer)
+    return (said + count[1], int(count[0])) if count else (said, None)
 
 
 class Cases:
@@ -106,36 +115,46 @@ class Cases:
         answer = agreed(wanted, check(data))
         self.add_keyed("check", text, data, "", answer)
 
-    def evaluate(self, text, rows, columns, wanted=None, sheet=None, unroll=True, name=None, field=PRIME):
+    def evaluate(self, text, rows, columns, wanted=None, sheet=None, unroll=True, name=None, factors=None, field=PRIME):
         """An evaluation of a key in words. `wanted` is the refusal or each array's A, B and C, where they are known
         without the model; a key that is too large to unroll needs them. A `name` stands for a key that is long in words.
+        `factors` is the count of factors, where it is known without the model.
         """
         data = key(text)
         sheet = lent(field, data) if sheet is None else sheet
-        worked_out = evaluate(data, rows, columns, sheet, None if unroll else wanted, field)
-        answer = agreed(settled(wanted, sheet), worked_out)
+        answer = evaluate(data, rows, columns, sheet, None if unroll else wanted, field)
+        said, count = uncounted(answer)
+        agreed(settled(wanted, sheet), said)
+        agreed(factors, count)
         behind = f" at rows {listed(rows)} columns {listed(columns)} on sheet {listed(sheet)}"
         fields = (len(rows), len(columns), len(sheet))
         call = f"evaluate{field.suffix}"
         self.add_keyed(call, name or text, data, behind, answer, fields, [*rows, *columns, *sheet])
 
-    def cell(self, text, row, column, wanted=None, sheet=None, unroll=True, name=None):
+    def cell(self, text, row, column, wanted=None, sheet=None, unroll=True, name=None, factors=None):
         """A cell of a key in words; the rest is as for evaluate."""
         data = key(text)
         sheet = lent(PRIME, data) if sheet is None else sheet
-        answer = agreed(settled(wanted, sheet), cell(data, row, column, sheet, None if unroll else wanted))
+        answer = cell(data, row, column, sheet, None if unroll else wanted)
+        said, count = uncounted(answer)
+        agreed(settled(wanted, sheet), said)
+        agreed(factors, count)
         behind = f" at row {row} column {column} on sheet {listed(sheet)}"
         self.add_keyed("cell", name or text, data, behind, answer, (row, column, len(sheet)), sheet)
 
-    def compare(self, first, second, rows, columns, wanted=None, sheet=None, known=None, unroll=True, field=PRIME):
+    def compare(
+        self, first, second, rows, columns, wanted=None, sheet=None, known=None, unroll=True, factors=None, field=PRIME
+    ):
         """A comparison of two keys in words. `wanted` is what is said, or which key is refused and how, where 01 words it,
         with the sheet afterwards or without; `known` is each array's A, B and C of the two keys, which keys that are too
-        large to unroll need.
+        large to unroll need; `factors` is the count of factors of both, as for evaluate.
         """
         keys = key(first), key(second)
         sheet = lent(field, *keys) if sheet is None else sheet
         answer = compare(*keys, rows, columns, sheet, None if unroll else known, field)
-        agreed(wanted, answer if wanted and " sheet" in wanted else answer.partition(" sheet")[0])
+        said, count = uncounted(answer)
+        agreed(wanted, said if wanted and " sheet" in wanted else said.partition(" sheet")[0])
+        agreed(factors, count)
         agreed(known and compare(*keys, rows, columns, sheet, known, field), answer)
         behind = f" at rows {listed(rows)} columns {listed(columns)} on sheet {listed(sheet)}"
         counts = (len(rows), len(columns), len(sheet))

@@ -12,13 +12,13 @@ from tests.model.words import byte_words, key_words, times, words
 
 from .evaluations import longest_keys
 from .keys import CIRCUIT, EMPTY, NESTED, ONE, REWRITTEN, SAMPLE, THREE, keyed, of_cells, pair, part, single
-from .towers import drawn_levels, shapes, tower, tower_values
+from .towers import drawn_levels, shapes, tower, tower_factors, tower_values
 
 
-def both_ways(cases, first, second, point, wanted=None, sheet=None):
+def both_ways(cases, first, second, point, wanted=None, sheet=None, factors=None):
     """Two keys in words, and exchanged, where the answer is the same."""
-    cases.compare(first, second, *point, wanted, sheet)
-    cases.compare(second, first, *point, wanted, sheet)
+    cases.compare(first, second, *point, wanted, sheet, factors=factors)
+    cases.compare(second, first, *point, wanted, sheet, factors=factors)
 
 
 def same_cases(cases, draw):
@@ -101,7 +101,8 @@ def tower_pair(cases, draw, one, other, wanted=None):
     point = drawn_point(draw, shapes(one[1])[-1])
     known = [tower_values(*each, point) for each in (one, other)]
     sheet = [TOP] * 3 * max(map(len, known)) + [1, 2]
-    cases.compare(tower(*one), tower(*other), *point, wanted, sheet, known, len(one[1]) < 10)
+    factors = sum(tower_factors(levels) for _, levels in (one, other))
+    cases.compare(tower(*one), tower(*other), *point, wanted, sheet, known, len(one[1]) < 10, factors)
 
 
 def tower_cases(cases, draw):
@@ -128,7 +129,7 @@ def limit_cases(cases, draw):
     longest = next(longest_keys(draw))
     cells = [list(map(int, found)) for found in re.findall(r"(\d+) times cell (\d+) (\d+) (\d+) (\d+) (\d+)", longest)]
     short = of_cells((30, 30), [(fields[1:3], [fields[0] * x % P for x in fields[3:]]) for fields in cells])
-    cases.compare(longest, short, *drawn_point(draw, (30, 30)), "same")
+    cases.compare(longest, short, *drawn_point(draw, (30, 30)), "same", factors=(3120 + 60) * 60)
     most, least = (f"head 0 0, {times(count, 'sparse 0 0')}, cell 0 0 1 2 3, end" for count in (1024, 1))
     both_ways(cases, most, least, ((), ()), "same", [7] * 3072)
     both_ways(cases, most, least, ((), ()), "neither refused 31 at 3072", [7] * 3071)

@@ -11,7 +11,7 @@ from tests.model.keys import larger
 from tests.model.words import byte_words, key_words, times, words
 
 from .keys import NESTED, PATTERNS, SAMPLE, pair, single
-from .towers import drawn_levels, shapes, tower, tower_values
+from .towers import drawn_levels, shapes, tower, tower_factors, tower_values
 
 
 def starred_cases(cases):
@@ -133,9 +133,9 @@ def tower_case(cases, draw, levels, unroll, name=None):
     values, bits = (P - 1, 2, 3), shapes(levels)[-1]
     text, point, place = tower(values, levels), drawn_point(draw, bits), drawn_place(draw, bits)
     place_point = tuple(map(bits_of, place, bits))
-    sheet = [TOP] * 3 * (len(levels) + 1) + [1, 2]
-    cases.evaluate(text, *point, tower_values(values, levels, point), sheet, unroll, name)
-    cases.cell(text, *place, tower_values(values, levels, place_point), sheet, unroll, name)
+    sheet, factors = [TOP] * 3 * (len(levels) + 1) + [1, 2], tower_factors(levels)
+    cases.evaluate(text, *point, tower_values(values, levels, point), sheet, unroll, name, factors)
+    cases.cell(text, *place, tower_values(values, levels, place_point), sheet, unroll, name, factors)
 
 
 def tower_cases(cases, draw):
@@ -149,7 +149,9 @@ def tower_cases(cases, draw):
 
 
 def fibonacci_case(cases, draw):
-    """1,024 arrays, each of which calls the two before it: their values go up by Fibonacci's numbers."""
+    """1,024 arrays of one shape, each of which calls the two before it: their values go up by Fibonacci's numbers, and none but
+    the two coordinates of the one cell count as factors.
+    """
     arrays = ", ".join(f"recursive 1 1, call {i - 2} 0 0, call {i - 1} 0 0" for i in range(2, 1024))
     text = f"head 1 1, 2 times sparse 1 1, cell 1 0 1 2 {P - 1}, {arrays}, end"
     (row,), (column,) = point = drawn_point(draw, (1, 1))
@@ -158,7 +160,7 @@ def fibonacci_case(cases, draw):
         numbers.append(numbers[-2] + numbers[-1])
     wanted = [tuple(x * row * (1 - column) * value % P for value in (1, 2, P - 1)) for x in numbers]
     name = "1024 arrays, each of which calls the two before it"
-    cases.evaluate(text, *point, wanted, [TOP] * 3072 + [1, 2], name=name)
+    cases.evaluate(text, *point, wanted, [TOP] * 3072 + [1, 2], name=name, factors=2)
 
 
 def longest_keys(draw):
@@ -173,6 +175,9 @@ def longest_keys(draw):
     outer = ", ".join(f"84 times {words(*drawn_scaled_call(draw, (30, 30), 2, (20, 21)))}" for _ in range(10))
     yield f"scaled_head 30 30, sparse 0 0, sparse 14 15, {cells}, recursive 20 21, {inner}, recursive 30 30, {outer}, end"
 
+
+# The factors of each: those of cells of 60 bits, or of 29, and those of calls.
+LONGEST_FACTORS = (3120 * 60, 2020 * 29 + 1000 * (6 + 6) + 1100 * (10 + 9), 2020 * 29 + 700 * (6 + 6) + 840 * (10 + 9))
 
 # How many arrays of the key below have one cell, which is the first with fewer calls, and how many the ones before have.
 WIDEST = {"head": (9, 595, 6), "scaled_head": (10, 104, 5)}
@@ -207,9 +212,9 @@ def widest_case(cases, draw, name):
 
 def limit_cases(cases, draw):
     """01, 'Edges': keys of 65,536 bytes."""
-    for text in longest_keys(draw):
-        cases.evaluate(text, *drawn_point(draw, (30, 30)))
-        cases.cell(text, 2**30 - 1, 2**30 - 1)
+    for text, factors in zip(longest_keys(draw), LONGEST_FACTORS, strict=True):
+        cases.evaluate(text, *drawn_point(draw, (30, 30)), factors=factors)
+        cases.cell(text, 2**30 - 1, 2**30 - 1, factors=factors)
     for name in WIDEST:
         widest_case(cases, draw, name)
 

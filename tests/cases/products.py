@@ -1,6 +1,7 @@
 """The cases of crates/products, a test program for what no public call reaches: eq of 004 (1.1.2) on elements of either field
 that are no bits, and the weight of a number over any of a side's bits, by a table with the weights of limbs or without. Every
-answer is worked out by tests/model as the product that 004 prints; what is known in closed form must agree.
+answer is worked out by tests/model as the product that 004 prints; what is known in closed form must agree. Behind each product
+stands the count of its factors (02, E4), one for each element or bit.
 """
 
 import itertools
@@ -38,15 +39,16 @@ class Products:
         """eq of two lists, in both orders; `wanted` where it is known in closed form."""
         for one, other in ((x, y), (y, x)):
             answer = agreed(wanted, eq(one, other))
-            self.add("eq", f"{listed(one)} with {listed(other)}", [answer], (one, other))
+            self.add("eq", f"{listed(one)} with {listed(other)}", [answer, len(one)], (one, other))
 
     def eq_quadratic(self, x, y, wanted=None):
         """eq over p² of the elements that two lists of numbers are, likewise."""
         for one, other in ((x, y), (y, x)):
-            product = gaussian(eq(QUADRATIC.elements(one), QUADRATIC.elements(other)))
+            elements = QUADRATIC.elements(one)
+            product = gaussian(eq(elements, QUADRATIC.elements(other)))
             answer = agreed(wanted, QUADRATIC.numbers(product))
             name = f"{listed(one)} with {listed(other)}"
-            self.add("eq_quadratic", name, answer, (one, other), size=QUADRATIC.size)
+            self.add("eq_quadratic", name, [*answer, len(elements)], (one, other), size=QUADRATIC.size)
 
     def factor(self, number, start, coordinates, wanted=None):
         """The weights of a number over the bits from `start` up to each, by each table; `wanted` likewise."""
@@ -54,19 +56,25 @@ class Products:
         agreed(wanted, answers)
         for places in PLACES:
             name = f"{number} from bit {start} by {places} places at {listed(coordinates)}"
-            self.add("factor", name, answers, (coordinates,), number, start, places)
+            self.add("factor", name, counted(answers), (coordinates,), number, start, places)
 
     def weigh(self, number, coordinates):
         """The weights of a number that fits so many bits as there are coordinates, over the first bits up to each."""
+        answers = weights(number, 0, coordinates)
         for places in PLACES:
             name = f"{number} by {places} places at {listed(coordinates)}"
-            self.add("weigh", name, weights(number, 0, coordinates), (coordinates,), number, places=places)
+            self.add("weigh", name, counted(answers), (coordinates,), number, places=places)
 
 
 def weights(number, start, coordinates):
     """The weights of a number's lowest bits at the coordinates from `start` up to each; 01's product must agree."""
     sides = [coordinates[start:end] for end in range(start, len(coordinates) + 1)]
     return [agreed(weight(number, side), eq(bits_of(number, len(side)), side)) for side in sides]
+
+
+def counted(answers):
+    """Weights over no bits, over one, and so on, each with its count of factors behind it."""
+    return list(itertools.chain(*((answer, bits) for bits, answer in enumerate(answers))))
 
 
 def drawn(draw, count):
@@ -112,7 +120,7 @@ def many_cases(products, draw):
 
 
 def window_cases(products, draw):
-    """Weights over the bits from each up to each: the number's further bits, which may be any, have no part in them."""
+    """Weights over the bits from each up to each, of a number of any bits, of which the program takes as many as are weighed."""
     for count in (0, 1, 5, 11, 30):
         number, coordinates, edges = draw.below(TOP + 1), drawn(draw, count), drawn_edges(draw, count)
         for start in range(count + 1):

@@ -14,6 +14,7 @@ from .counts import count_cases
 from .editions.quadratic import edition_cases as quadratic_edition_cases
 from .editions.sweep import edition_cases
 from .evaluations import evaluation_cases
+from .factors import factor_cases, quadratic_factor_cases
 from .quadratic.sweep import quadratic_cases
 from .records import put_cases, take_cases
 from .refusals import refusal_cases
@@ -34,6 +35,7 @@ def public_cases():
     comparison_refusals(cases, draw)
     count_cases(cases, draw)
     edition_cases(cases, draw)
+    factor_cases(cases, draw)
     return cases
 
 
@@ -42,6 +44,7 @@ def cases_over_p_squared():
     cases, draw = Cases(), Draw()
     quadratic_cases(cases, draw)
     quadratic_edition_cases(cases, draw)
+    quadratic_factor_cases(cases, draw)
     return cases
 
 

@@ -6,6 +6,9 @@ dense value at a place is the cell's times one count for each level, which the b
 chooses. Summed over all places with their weights this is a product: the cell's value times, for each level, its first
 count times 1 - r and its second times r, r being the coordinate of the bit that it added. In edition 2 one call with the
 count as its factor stands for so many calls.
+
+The weight of a call has one coordinate where its level adds a bit, and none else, and that of the cell has none. So a tower
+has as many factors as calls at levels that add a bit.
 """
 
 from tests.model.dense import numbers_of
@@ -62,6 +65,16 @@ def tower_values(values, levels, point, field=PRIME):
     for bits, (axis, counts) in zip(shapes(levels), levels):
         known.append(tuple(factor(axis, counts, bits, point) * x % P for x in known[-1]))
     return [numbers_of(each, field) for each in known]
+
+
+def tower_factors(levels):
+    """How many factors a tower has: one for each call of a level that adds a bit."""
+    return sum(sum(counts) for axis, counts in levels if axis is not None)
+
+
+def scaled_tower_factors(levels):
+    """The same in edition 2, where such a level has two calls, whatever their factors are."""
+    return 2 * sum(shapes(levels)[-1])
 
 
 def drawn_levels(draw, count, most):

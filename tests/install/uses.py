@@ -19,6 +19,7 @@ NEW = bytes.fromhex("010101 020101 04 00000000 01000000 0a000000 0e000000 000000
 WRONG = NEW.replace(b"\x0e", b"\x0f")
 KEYS = {"old": OLD, "new": NEW, "wrong": WRONG, "cut": OLD[:40], "long": bytes(65537)}
 COUNTS = "arrays 2 cells 1 calls 2 rows 1 columns 1"
+VALUES = "a 2147483567 b 2147483535 c 0 factors 3"
 
 # Two keys by name, what the example prints for them, and its status.
 COMPARED = [
@@ -30,14 +31,15 @@ COMPARED = [
     ("old", "none", "", 3),
 ]
 
-CHECKED = """
+ANSWERED = """
 import sys
 sys.path.insert(0, sys.argv[1])
 import morgana
 with open(sys.argv[2], "rb") as file:
-    counts = morgana.check(file.read())
-for name in ("arrays", "cells", "calls", "rows", "columns"):
-    print(name, getattr(counts, name))
+    key = file.read()
+for answer in (morgana.check(key), morgana.evaluate(key, [3], [4])):
+    for name, number in vars(answer).items():
+        print(name, number)
 with open("/proc/self/maps") as maps:
     print(*sorted({line.split()[-1] for line in maps if "libmorgana" in line}))
 """
@@ -143,10 +145,10 @@ def hold_readme(prefix, folder, keys):
 
 
 def hold_python(prefix, python, version, keys):
-    """The module checks a key in a fresh interpreter, by the library that is installed with it."""
-    got = printed("python3", "-I", "-c", CHECKED, f"{prefix}/{python}", keys["old"])
+    """The module answers for a key in a fresh interpreter, by the library that is installed with it."""
+    got = printed("python3", "-I", "-c", ANSWERED, f"{prefix}/{python}", keys["old"])
     library = f"{prefix}/lib/libmorgana.so.{version}"
-    hold("morgana.check in Python", [*COUNTS.split(), library], got.split())
+    hold("check and evaluate in Python", [*COUNTS.split(), *VALUES.split(), library], got.split())
 
 
 def hold_programs(prefix, version, keys):

@@ -7,6 +7,7 @@ records  the records of a key, and their bytes
 keys     when a key is accepted: the rules of its records
 editions a key moved into the other edition
 dense    weights, the dense form of each array, and its value at a point
+factors  how many factors the weights of a key's records have
 words    keys, numbers and answers in words
 calls    what each call answers
 """

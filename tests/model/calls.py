@@ -4,10 +4,11 @@ import itertools
 
 from .dense import bits_of, dense, triples
 from .editions import moved
+from .factors import factors
 from .fields import P, PRIME
 from .keys import read
 from .records import Refusal, encode, record_at
-from .words import accepted, outcome, refused, words
+from .words import accepted, counted, outcome, refused, words
 
 
 def arithmetic(operation, a, b):
@@ -98,14 +99,14 @@ def written(known, sheet):
     return [*numbers, *sheet[len(numbers) :]]
 
 
-def valued(values, known, sheet):
-    """The outcome where A, B and C are answered and known for each array."""
-    return outcome(" ".join(map(str, values)), written(known, sheet))
+def valued(values, count, known, sheet):
+    """The outcome where A, B and C are answered with the count of factors, and known for each array."""
+    return outcome(counted(" ".join(map(str, values)), count), written(known, sheet))
 
 
 def answered(data, hold, sheet, give, field=PRIME):
     """The outcome of a call on a key: its first refusal, `hold` being what judges the head behind the key's own rules, or
-    the answer and each array's A, B and C that `give` makes of the head and the arrays.
+    the values and each array's A, B and C that `give` makes of the head and the arrays, and the count of factors.
     """
     try:
         head, arrays = read(data)
@@ -113,7 +114,8 @@ def answered(data, hold, sheet, give, field=PRIME):
         hold_sheet(arrays, sheet, field)
     except Refusal as refusal:
         return outcome(refused(*refusal.args), sheet)
-    return valued(*give(head, arrays), sheet)
+    values, known = give(head, arrays)
+    return valued(values, factors(arrays), known, sheet)
 
 
 def evaluate(data, rows, columns, sheet, known=None, field=PRIME):
@@ -172,4 +174,5 @@ def compare(first, second, rows, columns, sheet, known=None, field=PRIME):
         *cause, which = refusal.args
         return outcome(f"{which} {refused(*cause)}", sheet)
     one, other = known or [triples(arrays, dense(arrays), rows, columns, field) for arrays in keys]
-    return outcome(verdict(one, other), written(other, written(one, sheet)))
+    answer = counted(verdict(one, other), sum(map(factors, keys)))
+    return outcome(answer, written(other, written(one, sheet)))

@@ -15,6 +15,11 @@ def accepted(arrays, cells, calls, rows, columns):
     return f"arrays {arrays} cells {cells} calls {calls} rows {rows} columns {columns}"
 
 
+def counted(answer, factors):
+    """An answer in words and its count of factors, as the program prints them."""
+    return f"{answer} factors {factors}"
+
+
 def outcome(answer, sheet):
     """An answer in words and the sheet's places, as the program prints them."""
     return " ".join([answer, "sheet", *map(str, sheet)])

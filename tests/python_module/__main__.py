@@ -8,11 +8,13 @@ line and ends with status 0, or prints the first fault and ends with status 1.
 
 import sys
 
-from . import agreement, answers, chances, drawn, example, keys, loading, moves, points, sheets
-from . import threads
+from . import agreement, answers, chances, drawn, example, factors, keys, loading, moves, points
+from . import sheets, threads
 from .holding import Failed, Hold
 
-PARTS = (agreement, answers, keys, points, sheets, moves, chances, threads, loading, example)
+PARTS = (
+    agreement, answers, keys, points, sheets, moves, factors, chances, threads, loading, example,
+)
 
 
 def main():

@@ -23,10 +23,12 @@ def hold_answers(hold):
     values = morgana.evaluate_quadratic(samples.OLD, *samples.PARTS)
     hold.equal("A, B and C", samples.SIXES[6:], [*values.a, *values.b, *values.c])
     hold.equal("u and v of A", (20, 2147483467), (values.a.u, values.a.v))
+    hold.equal("its fields", ["a", "b", "c", "factors"], [*dataclasses.asdict(values)])
     hold.equal("the type of A", morgana.Quadratic, type(values.a))
     compared = morgana.compare(samples.OLD, samples.WRONG, [3], [4])
-    hold.equal("whether they are the same", False, compared.same)
-    for answer, field in ((counts, "arrays"), (values, "a"), (compared, "same")):
+    hold.equal("what is found", {"same": False, "factors": 5}, dataclasses.asdict(compared))
+    named = (counts, "arrays"), (values, "a"), (compared, "same")
+    for answer, field in (*named, (values, "factors"), (compared, "factors")):
         fields = {each.name: getattr(answer, each.name) for each in dataclasses.fields(answer)}
         hold.equal("an equal answer", type(answer)(**fields), answer)
         hold.true("another answer", type(answer)(**{**fields, field: 7}) != answer)

@@ -12,7 +12,7 @@ from tests.model import calls as model
 from tests.model.editions import moved
 from tests.model.fields import PRIME, QUADRATIC
 from tests.model.records import Refusal
-from tests.model.words import accepted, outcome, refused
+from tests.model.words import accepted, counted, outcome, refused
 
 from . import forms
 from .holding import Failed, hold_equal
@@ -45,8 +45,9 @@ def in_words(answer):
     if isinstance(answer, morgana.Counts):
         return accepted(answer.arrays, answer.cells, answer.calls, answer.rows, answer.columns)
     if isinstance(answer, morgana.Compared):
-        return "same" if answer.same else "different"
-    return " ".join(str(x) for value in (answer.a, answer.b, answer.c) for x in numbers_of(value))
+        return counted("same" if answer.same else "different", answer.factors)
+    numbers = (str(x) for value in (answer.a, answer.b, answer.c) for x in numbers_of(value))
+    return counted(" ".join(numbers), answer.factors)
 
 
 def answered(name, *arguments):
@@ -61,7 +62,8 @@ def answered(name, *arguments):
 def kind_of(words):
     """The number of a refusal in words, or the kind of the answer."""
     number = re.match(r"(?:first |second |neither )?refused (\d+) ", words)
-    return int(number[1]) if number else words if words in ("same", "different") else "accepted"
+    said = words.split(" factors")[0]
+    return int(number[1]) if number else said if said in ("same", "different") else "accepted"
 
 
 def moved_words(data):

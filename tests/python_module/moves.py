@@ -2,6 +2,8 @@
 call.
 """
 
+import dataclasses
+
 from tests.model.words import key
 
 from . import forms, samples
@@ -51,12 +53,14 @@ def hold_refusals(hold):
 
 def hold_both(hold):
     """Keys of edition 2 in every call, and one of each edition in compare."""
-    for one in (samples.SCALED, samples.DOUBLED):
-        values = morgana.evaluate(samples.OLD, [3], [4])
-        hold.equal("evaluate", values, morgana.evaluate(one, [3], [4]))
-        hold.equal("cell", morgana.cell(samples.OLD, 0, 1), morgana.cell(one, 0, 1))
-        values = morgana.evaluate_quadratic(samples.OLD, *samples.PARTS)
-        hold.equal("over p*p", values, morgana.evaluate_quadratic(one, *samples.PARTS))
+    for one, factors in ((samples.SCALED, 3), (samples.DOUBLED, 2)):
+        for call, rest in (
+            (morgana.evaluate, ([3], [4])),
+            (morgana.cell, (0, 1)),
+            (morgana.evaluate_quadratic, samples.PARTS),
+        ):
+            wanted = dataclasses.replace(call(samples.OLD, *rest), factors=factors)
+            hold.equal(call.__name__, wanted, call(one, *rest))
         for other, same in ((samples.OLD, True), (samples.NEW, True), (samples.WRONG, False)):
             for pair in ((one, other), (other, one)):
                 hold.equal("compare", same, morgana.compare(*pair, [3], [4]).same)

@@ -9,7 +9,7 @@ from . import forms, samples
 from .subject import morgana
 
 P = morgana.P
-AT_3_4 = morgana.Values(a=2147483567, b=2147483535, c=0)
+AT_3_4 = morgana.Values(a=2147483567, b=2147483535, c=0, factors=3)
 NO_INTEGERS = (3.0, 3.5, "3", b"3", None, [3], decimal.Decimal(3), fractions.Fraction(3), 3j)
 NEGATIVE = (-1, -P, -(2**32), -(2**64), -(10**5000), forms.Whole(-1))
 # Their lowest 32 bits are all below p.
@@ -82,12 +82,12 @@ def hold_counts(hold):
         hold.refused("columns", 22, count, morgana.evaluate, samples.OLD, [P], [P] * count)
     hold.refused("one number of two", 21, 1, morgana.evaluate_quadratic, samples.OLD, [3], [4])
     last = 2**30 - 1
-    corner = morgana.Values(a=1, b=2, c=3)
+    corner = morgana.Values(a=1, b=2, c=3, factors=60)
     hold.equal("the last cell", corner, morgana.cell(samples.GREATEST, last, last))
     hold.equal("its point", corner, morgana.evaluate(samples.GREATEST, [1] * 30, [1] * 30))
     hold.refused("the row behind it", 24, 0, morgana.cell, samples.GREATEST, last + 1, last)
     hold.refused("the column behind it", 24, 1, morgana.cell, samples.GREATEST, last, last + 1)
-    zeros = morgana.Values(a=0, b=0, c=0)
+    zeros = morgana.Values(a=0, b=0, c=0, factors=0)
     hold.equal("no coordinates", zeros, morgana.evaluate(samples.SHORTEST, [], []))
 
 

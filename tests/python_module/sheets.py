@@ -96,7 +96,7 @@ def hold_lengths(hold):
 
 def hold_own(hold):
     """The module's own sheet is long enough for a key of the most arrays."""
-    key, values = samples.MOST_ARRAYS, morgana.Values(a=1, b=2, c=3)
+    key, values = samples.MOST_ARRAYS, morgana.Values(a=1, b=2, c=3, factors=0)
     pairs = [morgana.Quadratic(number, 0) for number in (1, 2, 3)]
     hold.equal("the most arrays", morgana.MOST_ARRAYS, morgana.check(key).arrays)
     hold.equal("evaluate", values, morgana.evaluate(key, [], []))
@@ -128,7 +128,8 @@ def hold_overlaps(hold):
     hold.equal("the sheet", [got.a, got.b, got.c], list(words)[:3])
     numbers = array.array("I", [3, 4, 0, 0, 0, 0])
     sides = memoryview(numbers)[:1], memoryview(numbers)[1:2]
-    hold.equal("a point on its sheet", got, morgana.evaluate(samples.OLD, *sides, numbers))
+    got = morgana.evaluate(samples.OLD, *sides, numbers)
+    hold.equal("a point on its sheet", morgana.evaluate(samples.OLD, *POINT), got)
     hold.equal("the sheet", samples.TRIPLES, list(numbers))
 
 

@@ -1,11 +1,12 @@
 """Compares tests/model with tests/unroll on drawn keys of both editions, points, sheets and buffers, over p and over p²: both
-unroll a key, and move it into the other edition, each in its own way.
+unroll a key, count its factors, and move it into the other edition, each in its own way.
 
 The points have numbers 0, 1, 2, p - 1 and any others; some have every number p - 1. Keys, points and sheets are whole or
 faulty, buffers fit or are too short, and each refusal must have occurred. What is moved is moved back, and the two keys are
-compared. At points with every v zero tests/model must answer over p² what it answers
-over p, as u with v zero. The cases over p² (tests/cases/quadratic and editions) are worked out too, and must agree with what
-is worded there. Prints one line and ends with status 0, or prints the first fault and ends with status 1.
+compared. At points with every v zero tests/model must answer over p² what it answers over p, as u with v zero, and no whole
+key may have more factors than E4's limit. The cases over p² (tests/cases/quadratic, editions and factors) are worked out too,
+and must agree with what is worded there. Prints one line and ends with status 0, or prints the first fault and ends with
+status 1.
 """
 
 import sys

@@ -7,12 +7,13 @@ from tests.draw.keys import drawn_key, encoded
 from tests.draw.numbers import Draw, drawn_edges, drawn_point, numbered, spoiled
 from tests.model.calls import compare, evaluate
 from tests.model.fields import P, PRIME, QUADRATIC, with_zeros
-from tests.model.words import outcome, refused
+from tests.model.words import counted, outcome, refused
 from tests.unroll.calls import compare_on, evaluate_on
+from tests.unroll.factors import factors
 from tests.unroll.fields import F_P, F_P2
-from tests.unroll.keys import Refused
+from tests.unroll.keys import Refused, check
 
-from .holding import hold, hold_outcomes
+from .holding import Failed, hold, hold_outcomes
 
 FIELDS = ((PRIME, F_P), (QUADRATIC, F_P2))
 KEYS = 250
@@ -25,20 +26,20 @@ OUTCOMES = {
 def unrolled_evaluation(data, rows, columns, sheet, over):
     """What tests/unroll answers, as tests/model words it, and the kind of outcome."""
     try:
-        values, after = evaluate_on(data, rows, columns, sheet, over)
+        values, count, after = evaluate_on(data, rows, columns, sheet, over)
     except Refused as refusal:
         return outcome(refused(refusal.number, refusal.place), sheet), refusal.number
-    return outcome(" ".join(map(str, values)), after), "accepted"
+    return outcome(counted(" ".join(map(str, values)), count), after), "accepted"
 
 
 def unrolled_comparison(first, second, rows, columns, sheet, over):
     """The same of two keys that are compared."""
     try:
-        same, after = compare_on(first, second, rows, columns, sheet, over)
+        same, count, after = compare_on(first, second, rows, columns, sheet, over)
     except Refused as refusal:
         return outcome(f"{refusal.which} {refused(refusal.number, refusal.place)}", sheet), refusal.number
     verdict = "same" if same else "different"
-    return outcome(verdict, after), verdict
+    return outcome(counted(verdict, count), after), verdict
 
 
 def points(draw, bits):
@@ -49,16 +50,27 @@ def points(draw, bits):
 
 
 def hold_old_points(data, point, sheet):
-    """Raises Failed where a point with every v zero does not give the old answer."""
-    old = evaluate(data, *point, sheet).split(" sheet")[0].split()
+    """Raises Failed where a point with every v zero does not give the old answer, with the same count of factors."""
+    *old, word, count = evaluate(data, *point, sheet).split(" sheet")[0].split()
     new = evaluate(data, *map(with_zeros, point), sheet, field=QUADRATIC).split(" sheet")[0].split()
-    hold("v zero", new, [str(x) for x in with_zeros(map(int, old))], f"{data.hex()} at {point}")
+    wanted = [*(str(x) for x in with_zeros(map(int, old))), word, count]
+    hold("v zero", new, wanted, f"{data.hex()} at {point}")
+
+
+def hold_limit(data):
+    """Raises Failed where an accepted key has more factors than (n + n')·(cells + calls)."""
+    key = check(data)
+    records = sum(len(array.cells) + len(array.calls) for array in key.arrays)
+    count, most = factors(key), (key.row_bits + key.column_bits) * records
+    if count > most:
+        raise Failed(f"{data.hex()} has {count} factors, and the limit is {most}")
 
 
 def hold_key(draw, records, counts, field, over):
     """Evaluates and compares one drawn key, whole and damaged."""
     bits = [field.size * n for n in records[0][1]]
     whole = encoded(records)
+    hold_limit(whole)
     changed = nearly(draw, records), rewritten(draw, records), in_other_edition(records), drawn_key(draw)
     others = [whole, *map(encoded, changed)]
     for data in (whole, *damaged(draw, records)):

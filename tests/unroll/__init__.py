@@ -4,6 +4,7 @@ apart from tests/model, of which it uses nothing. __main__ reads keysheet's inpu
 fields    the field of p elements and that of p² elements
 keys      records and keys: reading them, and the rules
 dense     the dense matrices of a key's arrays, and their values at a point
+factors   how many factors the weights of a key's records have
 calls     a key evaluated, two keys compared, and the sheet afterwards
 editions  a key written again in the other edition
 keysheet  what keysheet prints

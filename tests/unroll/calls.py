@@ -1,6 +1,7 @@
 """A key evaluated at a point, and two keys compared, with the sheet afterwards."""
 
 from .dense import PARTS, dense, extension, weights
+from .factors import factors
 from .fields import F_P, PRIME
 from .keys import Refused, check, require
 
@@ -48,9 +49,10 @@ def laid(triples, sheet):
 
 
 def evaluate_on(key_bytes, rows, columns, sheet, over=F_P):
-    """The last array's numbers and the sheet afterwards. Refuses with 1 to 13, 21, 22, 23 and 31."""
-    triples = evaluate(check(key_bytes), rows, columns, over)
-    return triples[-1], laid(triples, sheet)
+    """The last array's numbers, the count of factors and the sheet afterwards. Refuses with 1 to 13, 21, 22, 23 and 31."""
+    key = check(key_bytes)
+    triples = evaluate(key, rows, columns, over)
+    return triples[-1], factors(key), laid(triples, sheet)
 
 
 def check_named(key_bytes, which):
@@ -63,11 +65,12 @@ def check_named(key_bytes, which):
 
 
 def compare_on(first, second, rows, columns, sheet, over=F_P):
-    """Whether two keys have the same numbers at a point, and the sheet afterwards. Refuses with 1 to 13 for the first key,
-    then for the second, and then with 35, 21, 22, 23, and 31 for the key with more arrays.
+    """Whether two keys have the same numbers at a point, the factors of both, and the sheet afterwards. Refuses with 1 to 13
+    for the first key, then for the second, and then with 35, 21, 22, 23, and 31 for the key with more arrays.
     """
     one, other = check_named(first, "first"), check_named(second, "second")
     require((one.row_bits, one.column_bits) == (other.row_bits, other.column_bits), 35, 0)
     of_first, of_second = (evaluate(key, rows, columns, over) for key in (one, other))
     laid(max(of_first, of_second, key=len), sheet)
-    return of_first[-1] == of_second[-1], laid(of_second, laid(of_first, sheet))
+    same = of_first[-1] == of_second[-1]
+    return same, factors(one) + factors(other), laid(of_second, laid(of_first, sheet))

@@ -10,6 +10,7 @@ use Rattle.multilinear.specs.Matrix.{moved}
 use Rattle.multilinear.specs.Weight.{weight}
 use Rattle.arrays.specs.Arrays.{Part, A, B, C, valueOf, Cell, cells, calls, Array}
 use Rattle.arrays.specs.Dense.{summed, entriesMatrix, matricesBelow, dense}
+use Rattle.arrays.specs.Factors.{factorsIn}
 use Rattle.arrays.specs.Pass.{entriesTerms, valuesBelow}
 use Rattle.arrays.specs.Placing.{blocks}
 use Rattle.arrays.specs.Side.{coordinates}
@@ -63,6 +64,11 @@ keysheet-passed : map (λ q. passes q keysheet (3 ∷ []) (4 ∷ [])) (A ∷ B �
 unfolding keysheet valuesBelow entriesTerms weight
 keysheet-passed = refl
 
+-- its cell weighs one column coordinate, each of its calls the row coordinate that array 0 leaves
+keysheet-factors : factorsIn keysheet ≡ 3
+unfolding keysheet
+keysheet-factors = refl
+
 -- ---- two cells at one place, with A p - 1 and 2: they add up to p + 1, which is 1
 
 repeated : List Array
@@ -76,6 +82,11 @@ repeated-dense = refl
 repeated-passed : passes A repeated [] [] ≡ 1 ∷ []
 unfolding repeated valuesBelow entriesTerms weight
 repeated-passed = refl
+
+-- without coordinates there are no factors
+repeated-factors : factorsIn repeated ≡ 0
+unfolding repeated
+repeated-factors = refl
 
 -- ---- a recursive array without calls is zero
 
@@ -172,3 +183,8 @@ tripled-dense = refl
 tripled-passed : passes A tripled (3 ∷ []) (4 ∷ []) ≡ 20 ∷ 180 ∷ 2147483287 ∷ []
 unfolding tripled valuesBelow entriesTerms weight
 tripled-passed = refl
+
+-- the cell weighs one coordinate, the first call one and the second none: the factors 3 and p - 2 do not count
+tripled-factors : factorsIn tripled ≡ 2
+unfolding tripled
+tripled-factors = refl

@@ -1,5 +1,6 @@
 pub mod Arrays
 pub mod Totals
+pub mod Factors
 pub mod Placing
 pub mod WellFormed
 pub mod Dense

@@ -60,13 +60,14 @@ pub(crate) fn checked(got: Checked) {
     }
 }
 
-// The values of A, B and C, or a refusal.
+// The values of A, B and C and the factors, or a refusal.
 pub(crate) fn evaluated(got: Evaluated) {
     match got {
-        Evaluated::Values(v) => {
+        Evaluated::Values(v, taken) => {
             field(v.a.value());
             field(v.b.value());
             output::number(v.c.value() as u64);
+            output::factors(taken);
         }
         Evaluated::Refused(r) => output::refusal(r),
     }

@@ -99,11 +99,11 @@ fn counted(tally: Tally, got: Compared) -> Tally {
     let mut same = tally.same;
     let mut different = tally.different;
     match got {
-        Compared::Same => {
+        Compared::Same(_) => {
             io::write_all(1, b"S");
             same = std::num::wrapping_add_u32(same, 1);
         }
-        Compared::Different => {
+        Compared::Different(_) => {
             io::write_all(1, b"D");
             different = std::num::wrapping_add_u32(different, 1);
         }

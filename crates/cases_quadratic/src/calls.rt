@@ -62,15 +62,16 @@ fn compare(header: Header, data: &[u8], rows: &[u32], columns: &[u32], sheet: &m
     output::sheet(sheet);
 }
 
-// The two numbers each of A, B and C, or a refusal.
+// The two numbers each of A, B and C and the factors, or a refusal.
 fn evaluated(got: Evaluated) {
     match got {
-        Evaluated::Values(v) => {
+        Evaluated::Values(v, taken) => {
             element(v.a);
             io::write_all(1, b" ");
             element(v.b);
             io::write_all(1, b" ");
             element(v.c);
+            output::factors(taken);
         }
         Evaluated::Refused(r) => output::refusal(r),
     }

@@ -6,18 +6,20 @@ use indexed::work;
 use records::Shape;
 use weights::table;
 ghost use mathlib.Core.Path.{_≡_};
+ghost use Prim.Native.Nat.{_+_};
 ghost use lib.ListN.{length};
 ghost use Rattle.field.specs.Scalars.{prime};
 ghost use Rattle.weights.specs.Side.{Ready};
 ghost use Rattle.weights.specs.Words.{singles};
+ghost use Rattle.key.specs.Factors.{keyFactors};
 ghost use Rattle.evaluate.specs.Answer.{valuesIn};
 ghost use Rattle.comparison.specs.Compare.{likeness};
 ghost use Rattle.comparison.specs.Inner.{Evaluable, likenessAt, bothWritten};
-ghost use Rattle.compare.specs.Answer.{comparedAnswer};
+ghost use Rattle.compare.specs.Answer.{comparedAnswer, comparedFactors};
 
-// Whether the last arrays' three numbers are equal at a point. The sheet ends with those of the second key's arrays over those of the
-// first's. Weights of limbs are prepared where they are estimated to save more, in both keys together, than they cost (`work`). Inner:
-// both keys can be evaluated at the point on the sheet.
+// Whether the last arrays' three numbers are equal at a point, and how many factors were taken for both. The sheet ends with those of the
+// second key's arrays over those of the first's. Weights of limbs are prepared where they are estimated to save more, in both keys
+// together, than they cost (`work`). Inner: both keys can be evaluated at the point on the sheet.
 pub(crate) fn run(
     first: &[u8],
     first_starts: &[u16],
@@ -34,6 +36,7 @@ pub(crate) fn run(
     ensures answer { λ r. ⌜
         comparedAnswer r ≡
         likenessAt prime (now (first .entry)) (now (second .entry)) (now (rows .entry)) (now (columns .entry)) ⌝ }
+    ensures factors { λ r. ⌜ comparedFactors r ≡ keyFactors (now (first .entry)) + keyFactors (now (second .entry)) ⌝ }
     ensures sheet { λ _. ⌜
         now (sheet .exit) ≡
         bothWritten prime (now (first .entry)) (now (second .entry)) (now (rows .entry)) (now (columns .entry)) «first_arrays»
@@ -95,6 +98,7 @@ fn by_sides(
     ensures answer { λ r. ⌜
         comparedAnswer r ≡
         likenessAt prime (now (first .entry)) (now (second .entry)) (now (rows .entry)) (now (columns .entry)) ⌝ }
+    ensures factors { λ r. ⌜ comparedFactors r ≡ keyFactors (now (first .entry)) + keyFactors (now (second .entry)) ⌝ }
     ensures sheet { λ _. ⌜
         now (sheet .exit) ≡
         bothWritten prime (now (first .entry)) (now (second .entry)) (now (rows .entry)) (now (columns .entry)) «first_arrays»
@@ -106,7 +110,7 @@ fn by_sides(
     };
     table::prepare(rows, rowwise);
     table::prepare(columns, columnwise);
-    pass::over(
+    let first_factors = pass::over(
         first,
         first_starts,
         first_arrays,
@@ -116,7 +120,7 @@ fn by_sides(
         sheet,
     );
     let one = pass::last(sheet, first_arrays);
-    pass::over(
+    let second_factors = pass::over(
         second,
         second_starts,
         second_arrays,
@@ -126,21 +130,22 @@ fn by_sides(
         sheet,
     );
     let other = pass::last(sheet, second_arrays);
-    likeness(one, other)
+    likeness(one, other, first_factors + second_factors)
 }
 
-// Whether all three numbers are equal.
-fn likeness(one: Values, other: Values) -> Compared
-    ensures { λ r. ⌜ comparedAnswer r ≡ likeness prime (valuesIn one) (valuesIn other) ⌝ }
+// Whether all three numbers are equal, where so many factors were taken.
+fn likeness(one: Values, other: Values, factors: usize) -> Compared
+    ensures answer { λ r. ⌜ comparedAnswer r ≡ likeness prime (valuesIn one) (valuesIn other) ⌝ }
+    ensures factors { λ r. ⌜ comparedFactors r ≡ factors ⌝ }
 {
     if one.a.value() != other.a.value() {
-        return Compared::Different;
+        return Compared::Different(factors);
     }
     if one.b.value() != other.b.value() {
-        return Compared::Different;
+        return Compared::Different(factors);
     }
     if one.c.value() != other.c.value() {
-        return Compared::Different;
+        return Compared::Different(factors);
     }
-    Compared::Same
+    Compared::Same(factors)
 }

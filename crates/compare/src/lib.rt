@@ -9,15 +9,15 @@ ghost use Prim.Native.Nat.{min, _/_, _≤_};
 ghost use lib.ListN.{length};
 ghost use Rattle.field.specs.Scalars.{prime};
 ghost use Rattle.comparison.specs.AgreementBound.{Agreement};
-ghost use Rattle.comparison.specs.Compare.{compared};
-ghost use Rattle.compare.specs.Answer.{comparedAnswer};
+ghost use Rattle.comparison.specs.Compare.{compared, BothLimited};
+ghost use Rattle.compare.specs.Answer.{comparedAnswer, comparedFactors};
 
 // What compare answers.
 pub enum Compared {
-    // All three numbers are equal at the point.
-    Same,
-    // At least one of the three differs.
-    Different,
+    // All three numbers are equal at the point. How many factors were taken for both keys (02, E4) stands beside it.
+    Same(usize),
+    // At least one of the three differs; likewise.
+    Different(usize),
     // A key, the point or the sheet is at fault, and nothing is written.
     Refused(Which, Refusal),
 }
@@ -25,8 +25,9 @@ pub enum Compared {
 // Whether two keys of one shape have the same A, B and C at a point. The sheet ends as if the first key and then the second had
 // been evaluated on it, and a refused call leaves it.
 //
-// Demand 3 is `answer` and `agreement` together: `agreement` says of what `compared` answers at how many points at most keys that differ are
-// the same, and that keys which do not differ are the same at every point; `answer` says that the call answers what `compared` does.
+// Demand 3 is `answer` and `agreement` together: `agreement` says of what `compared` answers at how many points at most keys that differ
+// are the same, and that keys which do not differ are the same at every point; `answer` says that the call answers what `compared` does.
+// By `limit` the factors that are answered are at most both keys' (n + n')·(cells + calls).
 pub fn compare(
     first: &[u8],
     second: &[u8],
@@ -38,11 +39,16 @@ pub fn compare(
         comparedAnswer r ≡
         compared prime (now (first .entry)) (now (second .entry)) (now (rows .entry)) (now (columns .entry)) (now (sheet .entry))
         .answer ⌝ }
+    ensures factors { λ r. ⌜
+        comparedFactors r ≡
+        compared prime (now (first .entry)) (now (second .entry)) (now (rows .entry)) (now (columns .entry)) (now (sheet .entry))
+        .factors ⌝ }
     ensures sheet { λ _. ⌜
         now (sheet .exit) ≡
         compared prime (now (first .entry)) (now (second .entry)) (now (rows .entry)) (now (columns .entry)) (now (sheet .entry))
         .sheet ⌝ }
     ensures agreement { λ _. ⌜ Agreement prime (now (first .entry)) (now (second .entry)) ⌝ }
+    ensures limit { λ _. ⌜ BothLimited (now (first .entry)) (now (second .entry)) ⌝ }
 {
     if first.len() < key::SHORT {
         if second.len() < key::SHORT {
@@ -89,6 +95,10 @@ fn by_tables(
         comparedAnswer r ≡
         compared prime (now (first .entry)) (now (second .entry)) (now (rows .entry)) (now (columns .entry)) (now (sheet .entry))
         .answer ⌝ }
+    ensures factors { λ r. ⌜
+        comparedFactors r ≡
+        compared prime (now (first .entry)) (now (second .entry)) (now (rows .entry)) (now (columns .entry)) (now (sheet .entry))
+        .factors ⌝ }
     ensures sheet { λ _. ⌜
         now (sheet .exit) ≡
         compared prime (now (first .entry)) (now (second .entry)) (now (rows .entry)) (now (columns .entry)) (now (sheet .entry))

@@ -9,20 +9,22 @@ use weights::table::LIMB_PLACES;
 use weights::table::PLACES;
 use weights_quadratic::table;
 ghost use mathlib.Core.Path.{_≡_};
+ghost use Prim.Native.Nat.{_+_};
 ghost use lib.ListN.{length};
 ghost use Rattle.quadratic.specs.Parts.{parts};
 ghost use Rattle.quadratic.specs.Quadratic.{quadratic};
 ghost use Rattle.weights.specs.Side.{Ready};
 ghost use Rattle.weights_quadratic.specs.Packed.{packed};
+ghost use Rattle.key.specs.Factors.{keyFactors};
 ghost use Rattle.comparison.specs.Compare.{likeness};
 ghost use Rattle.comparison.specs.Inner.{Evaluable, likenessAt, bothWritten};
-ghost use Rattle.compare.specs.Answer.{comparedAnswer};
+ghost use Rattle.compare.specs.Answer.{comparedAnswer, comparedFactors};
 ghost use Rattle.evaluate_quadratic.specs.Answer.{valuesIn};
 ghost use Rattle.compare_quadratic.specs.Inner.{Told};
 
-// Whether the last arrays' three numbers are equal at a point. The sheet ends with those of the second key's arrays over those of the
-// first's. Weights of limbs are prepared where they are estimated to save more, in both keys together, than they cost (`work`). Inner:
-// both keys can be evaluated at the point on the sheet.
+// Whether the last arrays' three numbers are equal at a point, and how many factors were taken for both. The sheet ends with those of the
+// second key's arrays over those of the first's. Weights of limbs are prepared where they are estimated to save more, in both keys
+// together, than they cost (`work`). Inner: both keys can be evaluated at the point on the sheet.
 pub(crate) fn run(
     first: &[u8],
     first_starts: &[u16],
@@ -39,6 +41,7 @@ pub(crate) fn run(
     ensures answer { λ r. ⌜
         comparedAnswer r ≡
         likenessAt quadratic (now (first .entry)) (now (second .entry)) (now (rows .entry)) (now (columns .entry)) ⌝ }
+    ensures factors { λ r. ⌜ comparedFactors r ≡ keyFactors (now (first .entry)) + keyFactors (now (second .entry)) ⌝ }
     ensures sheet { λ _. ⌜
         now (sheet .exit) ≡
         bothWritten quadratic (now (first .entry)) (now (second .entry)) (now (rows .entry)) (now (columns .entry)) «first_arrays»
@@ -103,6 +106,7 @@ fn by_sides(
     ensures answer { λ r. ⌜
         comparedAnswer r ≡
         likenessAt quadratic (now (first .entry)) (now (second .entry)) (now (rows .entry)) (now (columns .entry)) ⌝ }
+    ensures factors { λ r. ⌜ comparedFactors r ≡ keyFactors (now (first .entry)) + keyFactors (now (second .entry)) ⌝ }
     ensures sheet { λ _. ⌜
         now (sheet .exit) ≡
         bothWritten quadratic (now (first .entry)) (now (second .entry)) (now (rows .entry)) (now (columns .entry)) «first_arrays»
@@ -114,7 +118,7 @@ fn by_sides(
     };
     table::prepare(rows, rowwise);
     table::prepare(columns, columnwise);
-    pass::over(
+    let first_factors = pass::over(
         first,
         first_starts,
         first_arrays,
@@ -124,7 +128,7 @@ fn by_sides(
         sheet,
     );
     let one = pass::last(sheet, first_arrays);
-    pass::over(
+    let second_factors = pass::over(
         second,
         second_starts,
         second_arrays,
@@ -134,23 +138,24 @@ fn by_sides(
         sheet,
     );
     let other = pass::last(sheet, second_arrays);
-    likeness(one, other)
+    likeness(one, other, first_factors + second_factors)
 }
 
-// Whether A, B and C are equal, both parts of each.
-fn likeness(one: Values, other: Values) -> Compared
-    ensures { λ r. ⌜ comparedAnswer r ≡ likeness quadratic (valuesIn one) (valuesIn other) ⌝ }
+// Whether A, B and C are equal, both parts of each, where so many factors were taken.
+fn likeness(one: Values, other: Values, factors: usize) -> Compared
+    ensures answer { λ r. ⌜ comparedAnswer r ≡ likeness quadratic (valuesIn one) (valuesIn other) ⌝ }
+    ensures factors { λ r. ⌜ comparedFactors r ≡ factors ⌝ }
 {
     if differ(one.a, other.a) {
-        return Compared::Different;
+        return Compared::Different(factors);
     }
     if differ(one.b, other.b) {
-        return Compared::Different;
+        return Compared::Different(factors);
     }
     if differ(one.c, other.c) {
-        return Compared::Different;
+        return Compared::Different(factors);
     }
-    Compared::Same
+    Compared::Same(factors)
 }
 
 // Whether two elements differ in a part.

@@ -9,8 +9,8 @@ ghost use Prim.Native.Nat.{min, _/_, _≤_};
 ghost use lib.ListN.{length};
 ghost use Rattle.quadratic.specs.Quadratic.{quadratic};
 ghost use Rattle.comparison.specs.AgreementBound.{Agreement};
-ghost use Rattle.comparison.specs.Compare.{compared};
-ghost use Rattle.compare.specs.Answer.{comparedAnswer};
+ghost use Rattle.comparison.specs.Compare.{compared, BothLimited};
+ghost use Rattle.compare.specs.Answer.{comparedAnswer, comparedFactors};
 
 // Whether two keys of one shape have the same A, B and C at a point, two numbers a coordinate, u first. The sheet ends as if the first key
 // and then the second had been evaluated on it, and a refused call leaves it. `answer` and `agreement` together are the agreement bound of
@@ -26,11 +26,16 @@ pub fn compare(
         comparedAnswer r ≡
         compared quadratic (now (first .entry)) (now (second .entry)) (now (rows .entry)) (now (columns .entry))
         (now (sheet .entry)) .answer ⌝ }
+    ensures factors { λ r. ⌜
+        comparedFactors r ≡
+        compared quadratic (now (first .entry)) (now (second .entry)) (now (rows .entry)) (now (columns .entry))
+        (now (sheet .entry)) .factors ⌝ }
     ensures sheet { λ _. ⌜
         now (sheet .exit) ≡
         compared quadratic (now (first .entry)) (now (second .entry)) (now (rows .entry)) (now (columns .entry))
         (now (sheet .entry)) .sheet ⌝ }
     ensures agreement { λ _. ⌜ Agreement quadratic (now (first .entry)) (now (second .entry)) ⌝ }
+    ensures limit { λ _. ⌜ BothLimited (now (first .entry)) (now (second .entry)) ⌝ }
 {
     if first.len() < key::SHORT {
         if second.len() < key::SHORT {
@@ -77,6 +82,10 @@ fn by_tables(
         comparedAnswer r ≡
         compared quadratic (now (first .entry)) (now (second .entry)) (now (rows .entry)) (now (columns .entry))
         (now (sheet .entry)) .answer ⌝ }
+    ensures factors { λ r. ⌜
+        comparedFactors r ≡
+        compared quadratic (now (first .entry)) (now (second .entry)) (now (rows .entry)) (now (columns .entry))
+        (now (sheet .entry)) .factors ⌝ }
     ensures sheet { λ _. ⌜
         now (sheet .exit) ≡
         compared quadratic (now (first .entry)) (now (second .entry)) (now (rows .entry)) (now (columns .entry))

@@ -1,20 +1,23 @@
 -- What compare answers and leaves on the sheet, by what its judgements come to.
-use Prim.Native.Nat.{ℕ}
+use Prim.Native.Nat.{ℕ, _+_}
 use mathlib.Core.List.{List}
 use mathlib.Core.Path.{_≡_, sym, ap, _∙_}
+use native.Mathlib.Omega.{arith}
 use lib.ListN.{length}
 use Rattle.refusal.specs.Outcome.{Outcome, given, refused}
 use Rattle.refusal.specs.declared.Which.{Which}
 use Rattle.field.specs.Scalars.{Scalars}
 use Rattle.key.specs.Check.{checkedKey}
+use Rattle.key.specs.Factors.{keyFactors}
 use Rattle.key.specs.declared.Counts.{Counts}
+use Rattle.key.proofs.FactorLimits.{key-limited}
 use Rattle.judge.specs.Judged.{pairJudged}
 use Rattle.evaluation.specs.Evaluate.{lastValues, evaluated}
-use Rattle.comparison.specs.Compare.{Answer, Comparison, refusedFor, naming, likeness, compared}
+use Rattle.comparison.specs.Compare.{Answer, Comparison, refusedFor, naming, likeness, compared, BothLimited}
 
 -- a refused call: the sheet is as it was
 abbrev pub refusedCall : Which → ℕ → ℕ → List ℕ → Comparison
-refusedCall which number place sheet = record { answer = refusedFor which number place; sheet = sheet }
+refusedCall which number place sheet = record { answer = refusedFor which number place; factors = 0; sheet = sheet }
 
 naming-refused : (which : Which) (o : Outcome Counts) (sheet : List ℕ) (next : Counts → Comparison) (number place : ℕ) →
     o ≡ refused number place → naming which o sheet next ≡ refusedCall which number place sheet
@@ -50,6 +53,7 @@ module _ (𝓢 : Scalars) (first second rows columns sheet : List ℕ) where
           compared 𝓢 first second rows columns sheet
           ≡ record {
             answer = likeness 𝓢 (lastValues 𝓢 first rows columns) (lastValues 𝓢 second rows columns);
+            factors = keyFactors first + keyFactors second;
             sheet = evaluated 𝓢 second rows columns (evaluated 𝓢 first rows columns sheet .sheet) .sheet;
           }
       both-evaluated counts e =
@@ -58,8 +62,15 @@ module _ (𝓢 : Scalars) (first second rows columns sheet : List ℕ) where
           ∙ naming-given Which.Neither (pairJudged (𝓢 .width) rows columns (length sheet) one other) sheet _ counts e
 
 -- what is answered and left on the sheet
-pub promised : (𝓢 : Scalars) (first second rows columns sheet : List ℕ) (answer : Answer) (after : List ℕ) →
-    compared 𝓢 first second rows columns sheet ≡ record { answer = answer; sheet = after } →
-    (answer ≡ compared 𝓢 first second rows columns sheet .answer) × (after ≡ compared 𝓢 first second rows columns sheet .sheet)
-promised 𝓢 first second rows columns sheet answer after e =
-    (sym (ap (λ (x : Comparison). x .answer) e), sym (ap (λ (x : Comparison). x .sheet) e))
+pub promised : (𝓢 : Scalars) (first second rows columns sheet : List ℕ) (answer : Answer) (factors : ℕ) (after : List ℕ) →
+    compared 𝓢 first second rows columns sheet ≡ record { answer = answer; factors = factors; sheet = after } →
+    (answer ≡ compared 𝓢 first second rows columns sheet .answer) ×
+    ((factors ≡ compared 𝓢 first second rows columns sheet .factors) × (after ≡ compared 𝓢 first second rows columns sheet .sheet))
+promised 𝓢 first second rows columns sheet answer factors after e = (
+  sym (ap (λ (x : Comparison). x .answer) e),
+  (sym (ap (λ (x : Comparison). x .factors) e), sym (ap (λ (x : Comparison). x .sheet) e)),
+)
+
+pub both-limited : (first second : List ℕ) → BothLimited first second
+both-limited first second one other accepts accepts' =
+    omega (arith, key-limited first one accepts, key-limited second other accepts')

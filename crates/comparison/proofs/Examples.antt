@@ -40,6 +40,15 @@ corner-against-none :
 unfolding comparing
 corner-against-none = refl
 
+-- the factors of both keys, whatever is answered: the cell weighs one row coordinate and one column coordinate
+both-counted :
+    map (λ (c : Comparison). c .factors)
+    (cornerAt 0 0 ∷ cornerAt 1 1 ∷ compared prime none corner (1 ∷ []) (1 ∷ []) (replicate 3 9) ∷
+    compared prime corner corner (1 ∷ []) (1 ∷ []) (replicate 3 9) ∷ [])
+    ≡ 2 ∷ 2 ∷ 2 ∷ 4 ∷ []
+unfolding comparing
+both-counted = refl
+
 -- no coordinates: the one place decides, in A, in B and in C
 abbrev placesOf : ℕ → ℕ → ℕ → Comparison
 placesOf a b c =

@@ -1,18 +1,19 @@
 -- Where nothing is refused: what the two passes need, and that what they come to is what compare promises.
 -- The numbers compared are those that evaluate answers for the first key and then for the second.
-use Prim.Native.Nat.{ℕ, _*_, _≤_}
+use Prim.Native.Nat.{ℕ, _+_, _*_, _≤_}
 use mathlib.Core.List.{List}
-use mathlib.Core.Path.{_≡_, sym, ap, ap₂, _∙_}
+use mathlib.Core.Path.{_≡_, sym, ap, _∙_}
 use lib.ListN.{length}
 use Rattle.refusal.specs.Outcome.{given}
 use Rattle.field.specs.Scalars.{Scalars, Lawful}
 use Rattle.key.specs.Check.{checkedKey}
+use Rattle.key.specs.Factors.{keyFactors}
 use Rattle.key.specs.KeyArrays.{keyArrays}
 use Rattle.key.specs.declared.Counts.{Counts}
 use Rattle.judge.specs.Inner.{AtPoint}
 use Rattle.judge.specs.Judged.{pairJudged}
 use Rattle.judge.proofs.NothingRefused.{point-of, at-point}
-use Rattle.evaluation.specs.Evaluate.{valuesAt, lastValues, evaluated}
+use Rattle.evaluation.specs.Evaluate.{valuesAt, lastValues, countedFor, evaluated}
 use Rattle.evaluation.specs.Sheet.{wordsOf, placesOf}
 use Rattle.evaluation.specs.Inner.{writtenBy}
 use Rattle.evaluation.proofs.SheetAfterEvaluate.{answer-given, sheet-given}
@@ -38,7 +39,7 @@ module _ (𝓢 : Scalars) where
   -- a key that a point and a sheet serve is evaluated
   module _ (key rows columns sheet : List ℕ) (counts : Counts) (accepts : checkedKey key ≡ given counts)
       (serves : Serves 𝓢 rows columns (length sheet) counts) where
-    key-answered : evaluated 𝓢 key rows columns sheet .answer ≡ given (lastValues 𝓢 key rows columns)
+    key-answered : evaluated 𝓢 key rows columns sheet .answer ≡ given (countedFor 𝓢 key (lastValues 𝓢 key rows columns))
     key-answered =
         answer-given 𝓢 key rows columns sheet counts accepts (point-of (𝓢 .width) rows columns counts (serves .point)) (serves .room)
 
@@ -67,20 +68,22 @@ module _ (𝓢 : Scalars) where
           ap length (key-passed first rows columns sheet one accepts first-serves) ∙ passed-length first rows columns one sheet in
           rw same second-serves
 
-      pub first-answered : evaluated 𝓢 first rows columns sheet .answer ≡ given (lastValues 𝓢 first rows columns)
+      pub first-answered : evaluated 𝓢 first rows columns sheet .answer ≡ given (countedFor 𝓢 first (lastValues 𝓢 first rows columns))
       first-answered = key-answered first rows columns sheet one accepts first-serves
 
       pub second-answered : evaluated 𝓢 second rows columns (middle first rows columns sheet) .answer
-          ≡ given (lastValues 𝓢 second rows columns)
+          ≡ given (countedFor 𝓢 second (lastValues 𝓢 second rows columns))
       second-answered = key-answered second rows columns (middle first rows columns sheet) other accepts' middle-serves
 
-      pub both-passed : (answer : Answer) (after : List ℕ) →
+      pub both-passed : (answer : Answer) (factors : ℕ) (after : List ℕ) →
           answer ≡ likeness 𝓢 (lastValues 𝓢 first rows columns) (lastValues 𝓢 second rows columns) →
+          factors ≡ keyFactors first + keyFactors second →
           after ≡ passed second rows columns other (passed first rows columns one sheet) →
-          compared 𝓢 first second rows columns sheet ≡ record { answer = answer; sheet = after }
-      both-passed answer after a e =
-          both-evaluated 𝓢 first second rows columns sheet one accepts other accepts' counts admits
-          ∙ sym (ap₂ (λ (x : Answer) (y : List ℕ). record { answer = x; sheet = y }) a
-          (e
+          compared 𝓢 first second rows columns sheet ≡ record { answer = answer; factors = factors; sheet = after }
+      both-passed answer factors after a n e =
+          let written =
+          e
           ∙ ap (passed second rows columns other) (sym (key-passed first rows columns sheet one accepts first-serves))
-          ∙ sym (key-passed second rows columns (middle first rows columns sheet) other accepts' middle-serves)))
+          ∙ sym (key-passed second rows columns (middle first rows columns sheet) other accepts' middle-serves) in
+          both-evaluated 𝓢 first second rows columns sheet one accepts other accepts' counts admits
+          ∙ sym (λ t. record { answer = a t; factors = n t; sheet = written t })

@@ -1,13 +1,15 @@
--- What compare answers, and what it leaves on the sheet (01, 'Comparing two keys').
-use Prim.Native.Nat.{ℕ}
+-- What compare answers, and what it leaves on the sheet (01, 'Comparing two keys'; 02, E4).
+use Prim.Native.Nat.{ℕ, _+_, _≤_}
 use mathlib.Core.Bool.{Bool, true, false, cond, _&&_}
 use mathlib.Core.List.{List, [], _∷_}
+use mathlib.Core.Path.{_≡_}
 use lib.Dec.{eqb}
 use lib.ListN.{length}
 use Rattle.refusal.specs.Outcome.{Outcome, given, refused}
 use Rattle.refusal.specs.declared.Which.{Which}
 use Rattle.field.specs.Scalars.{Scalars}
 use Rattle.key.specs.Check.{checkedKey}
+use Rattle.key.specs.Factors.{keyFactors, limitOf}
 use Rattle.key.specs.declared.Counts.{Counts}
 use Rattle.judge.specs.Judged.{pairJudged}
 use Rattle.evaluation.specs.Evaluate.{ValuesOf, lastValues, evaluated}
@@ -19,15 +21,16 @@ pub data Answer : Type 0 where
   different : Answer
   refusedFor : Which → ℕ → ℕ → Answer
 
--- what a call answers, and its sheet afterwards
+-- what a call answers, with how many factors were taken, and its sheet afterwards
 pub record Comparison : Type 0 where
   pub answer : Answer
+  pub factors : ℕ
   pub sheet : List ℕ
 
--- A judgement. Where it refuses, the call answers so and names this key, or neither, and the sheet is as it was; else `next`
--- goes on.
+-- A judgement. Where it refuses, the call answers so and names this key, or neither, with no factors, and the sheet is as it was;
+-- else `next` goes on.
 unfoldable pub naming : Which → Outcome Counts → List ℕ → (Counts → Comparison) → Comparison
-naming which (refused number place) sheet next = record { answer = refusedFor which number place; sheet = sheet }
+naming which (refused number place) sheet next = record { answer = refusedFor which number place; factors = 0; sheet = sheet }
 naming which (given counts) sheet next = next counts
 
 -- are the numbers of two lists equal, one by one?
@@ -42,8 +45,8 @@ unfoldable pub likeness : (𝓢 : Scalars) → ValuesOf 𝓢 → ValuesOf 𝓢 �
 likeness 𝓢 one other = cond (sameNumbers (wordsOf 𝓢 one) (wordsOf 𝓢 other)) same different
 
 -- The first key's refusals come first, then the second's. The numbers compared are those that evaluate answers for the first key
--- and for the second, which demand 2 fixes: the extensions of their last arrays' dense matrices. The sheet ends as if the first
--- key and then the second had been evaluated on it.
+-- and for the second, which demand 2 fixes: the extensions of their last arrays' dense matrices. The factors are both keys', with
+-- "same" and with "different". The sheet ends as if the first key and then the second had been evaluated on it.
 abbrev pub compared : Scalars → List ℕ → List ℕ → List ℕ → List ℕ → List ℕ → Comparison
 compared 𝓢 first second rows columns sheet =
     naming Which.First (checkedKey first) sheet (λ one.
@@ -51,5 +54,12 @@ compared 𝓢 first second rows columns sheet =
     naming Which.Neither (pairJudged (𝓢 .width) rows columns (length sheet) one other) sheet (λ counts.
     record {
       answer = likeness 𝓢 (lastValues 𝓢 first rows columns) (lastValues 𝓢 second rows columns);
+      factors = keyFactors first + keyFactors second;
       sheet = evaluated 𝓢 second rows columns (evaluated 𝓢 first rows columns sheet .sheet) .sheet;
     })))
+
+-- the factors of two accepted keys are at most what each of them may have, taken together
+abbrev pub BothLimited : List ℕ → List ℕ → Type 0
+BothLimited first second =
+    (one other : Counts) → checkedKey first ≡ given one → checkedKey second ≡ given other →
+    keyFactors first + keyFactors second ≤ limitOf one + limitOf other

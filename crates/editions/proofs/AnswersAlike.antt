@@ -1,6 +1,6 @@
 -- Evaluate, cell and compare go by what check says of a key and by its arrays alone, and so they answer alike on a key and on its copy in
 -- the other edition.
-use Prim.Native.Nat.{ℕ}
+use Prim.Native.Nat.{ℕ, _+_}
 use mathlib.Core.List.{List}
 use mathlib.Core.Path.{_≡_, sym, ap₂, _∙_}
 use lib.ListN.{length}
@@ -10,7 +10,9 @@ use Rattle.field.specs.Fp.{fp}
 use Rattle.field.specs.Scalars.{Scalars, prime}
 use Rattle.multilinear.specs.Weight.{bits}
 use Rattle.arrays.specs.Arrays.{Array}
+use Rattle.arrays.specs.Factors.{factorsIn}
 use Rattle.key.specs.Check.{checkedKey}
+use Rattle.key.specs.Factors.{keyFactors}
 use Rattle.key.specs.KeyArrays.{keyArrays}
 use Rattle.key.specs.declared.Counts.{Counts}
 use Rattle.judge.specs.Judged.{pointJudged, placeJudged, sheetJudged, pairJudged}
@@ -26,7 +28,7 @@ use Rattle.editions.proofs.MovedKey.{Movable, moved-accepted, moved-arr
 abbrev evaluation : (𝓢 : Scalars) → List ℕ → List ℕ → List ℕ → Outcome Counts → List Array → Evaluation 𝓢
 evaluation 𝓢 rows columns sheet checked arrays =
     concluded 𝓢 (andThen (andThen checked (pointJudged (𝓢 .width) rows columns)) (sheetJudged (placesOf 𝓢) (length sheet)))
-    (λ counts. valuesAt 𝓢 arrays rows columns (lastOf arrays))
+    (λ counts. record { values = valuesAt 𝓢 arrays rows columns (lastOf arrays); factors = factorsIn arrays })
     (λ counts. valuesAt 𝓢 arrays rows columns)
     sheet
 
@@ -38,7 +40,7 @@ module _ (𝓢 : Scalars) (one other : List ℕ) (checks : checkedKey one ≡ ch
   cells-alike row column sheet =
       ap₂ (λ (checked : Outcome Counts) (arrays : List Array).
       concluded prime (andThen (andThen checked (placeJudged row column)) (sheetJudged (placesOf prime) (length sheet)))
-      (λ counts. denseValues arrays (lastOf arrays) row column)
+      (λ counts. record { values = denseValues arrays (lastOf arrays) row column; factors = factorsIn arrays })
       (λ counts. valuesAt prime arrays (bits fp (counts .rows) row) (bits fp (counts .columns) column))
       sheet)
       checks arrays
@@ -52,6 +54,7 @@ module _ (𝓢 : Scalars) (one other : List ℕ) (checks : checkedKey one ≡ ch
       naming Which.Neither (pairJudged (𝓢 .width) rows columns (length sheet) counts counts') sheet (λ both.
       record {
         answer = likeness 𝓢 (valuesAt 𝓢 arrays rows columns (lastOf arrays)) (lastValues 𝓢 second rows columns);
+        factors = factorsIn arrays + keyFactors second;
         sheet = evaluated 𝓢 second rows columns (evaluation 𝓢 rows columns sheet checked arrays .sheet) .sheet;
       }))))
       checks arrays
@@ -65,6 +68,7 @@ module _ (𝓢 : Scalars) (one other : List ℕ) (checks : checkedKey one ≡ ch
       naming Which.Neither (pairJudged (𝓢 .width) rows columns (length sheet) counts counts') sheet (λ both.
       record {
         answer = likeness 𝓢 (lastValues 𝓢 first rows columns) (valuesAt 𝓢 arrays rows columns (lastOf arrays));
+        factors = keyFactors first + factorsIn arrays;
         sheet = evaluation 𝓢 rows columns (evaluated 𝓢 first rows columns sheet .sheet) checked arrays .sheet;
       }))))
       checks arrays

@@ -1,4 +1,4 @@
-// One array of an accepted key: its values, from those of the arrays before it.
+// One array of an accepted key: its values, from those of the arrays before it, and how many factors they take.
 use crate::Values;
 use crate::entry;
 use crate::entry::Sums;
@@ -6,6 +6,7 @@ use field::Fp;
 use records::Shape;
 use records::read;
 use weights::side;
+use weights::side::Reached;
 ghost use mathlib.Core.Path.{_≡_};
 ghost use mathlib.Core.Bool.{true, false};
 ghost use mathlib.Core.List.{List};
@@ -17,12 +18,17 @@ ghost use Rattle.weights.specs.Words.{singles};
 ghost use Rattle.key.specs.KeyArrays.{keyArrays, keyScaled};
 ghost use Rattle.key.specs.Indexed.{Indexed, Sparse, Recursive};
 ghost use Rattle.evaluation.specs.Inner.{Sides, ReachedIn, Filled, nextBy};
-ghost use Rattle.evaluate.specs.Answer.{valuesIn};
-ghost use Rattle.evaluate.specs.Inner.{reducedIn};
+ghost use Rattle.evaluate.specs.Inner.{countedIn, reducedIn};
 
-// The values of array i, in a key that has so many arrays: the sums of what its entries add. The two sides of the point have as many
-// coordinates as `most` has bits. Inner: the key is accepted and indexed, the tables are ones for it, and the values of the arrays
-// before stand on the sheet.
+// The values of an array, and how many factors its entries took (02, E4).
+pub(crate) struct Counted {
+    pub values: Values,
+    pub factors: usize,
+}
+
+// The values and the factors of array i, in a key that has so many arrays: the sums of what its entries add. The two sides of the point
+// have as many coordinates as `most` has bits. Inner: the key is accepted and indexed, the tables are ones for it, and the values of the
+// arrays before stand on the sheet.
 pub(crate) fn values(
     key: &[u8],
     starts: &[u16],
@@ -32,36 +38,39 @@ pub(crate) fn values(
     rowwise: &[u32],
     columnwise: &[u32],
     sheet: &[u32],
-) -> Values
+) -> Counted
     requires { ⌜ Indexed (now key) (now starts) ⌝ }
     requires { ⌜ arrays ≡ length (keyArrays (now key)) ⌝ }
     requires { ⌜ i < arrays ⌝ }
     requires { ⌜ Sides singles (now key) most (now rowwise) (now columnwise) ⌝ }
     requires { ⌜ Filled prime i (now sheet) ⌝ }
     ensures { λ r. ⌜
-        valuesIn r ≡
+        countedIn r ≡
         nextBy singles (now (key .entry)) (now (rowwise .entry)) (now (columnwise .entry)) (now (sheet .entry)) i ⌝ }
 {
     let own = indexed::shape(key, starts, i);
-    let reached = Shape {
+    let reached = Reached {
         rows: side::reach(own.rows, most.rows, rowwise),
         columns: side::reach(own.columns, most.columns, columnwise),
     };
     let sums = total(key, starts, arrays, i, reached, rowwise, columnwise, sheet);
-    Values {
-        a: Fp::remainder(sums.a),
-        b: Fp::remainder(sums.b),
-        c: Fp::remainder(sums.c),
+    Counted {
+        values: Values {
+            a: Fp::remainder(sums.a),
+            b: Fp::remainder(sums.b),
+            c: Fp::remainder(sums.c),
+        },
+        factors: sums.factors,
     }
 }
 
-// The same, not reduced yet, where weights are taken over so many bits. Inner: as for `values`, and they may be taken so far.
+// The same, not reduced yet. Inner: as for `values`, and these are the array's bits, over which weights may be taken so far.
 fn total(
     key: &[u8],
     starts: &[u16],
     arrays: usize,
     i: usize,
-    reached: Shape,
+    reached: Reached,
     rowwise: &[u32],
     columnwise: &[u32],
     sheet: &[u32],
@@ -91,7 +100,7 @@ fn cells(
     starts: &[u16],
     arrays: usize,
     i: usize,
-    reached: Shape,
+    reached: Reached,
     rowwise: &[u32],
     columnwise: &[u32],
 ) -> Sums
@@ -104,7 +113,12 @@ fn cells(
         ((sheet : List ℕ) → reducedIn r ≡ nextBy singles (now (key .entry)) (now (rowwise .entry)) (now (columnwise .entry)) sheet i) ⌝ }
 {
     let to = indexed::behind(key, starts, arrays, i);
-    let mut sums = Sums { a: 0, b: 0, c: 0 };
+    let mut sums = Sums {
+        a: 0,
+        b: 0,
+        c: 0,
+        factors: 0,
+    };
     let mut at = starts[i] as usize + 3;
     while at < to {
         let c = read::cell(key, at + 1);
@@ -120,7 +134,7 @@ fn calls(
     starts: &[u16],
     arrays: usize,
     i: usize,
-    reached: Shape,
+    reached: Reached,
     rowwise: &[u32],
     columnwise: &[u32],
     sheet: &[u32],
@@ -137,7 +151,12 @@ fn calls(
         nextBy singles (now (key .entry)) (now (rowwise .entry)) (now (columnwise .entry)) (now (sheet .entry)) i ⌝ }
 {
     let to = indexed::behind(key, starts, arrays, i);
-    let mut sums = Sums { a: 0, b: 0, c: 0 };
+    let mut sums = Sums {
+        a: 0,
+        b: 0,
+        c: 0,
+        factors: 0,
+    };
     let mut at = starts[i] as usize + 3;
     while at < to {
         let c = read::call(key, at + 1);
@@ -153,7 +172,7 @@ fn scaled_calls(
     starts: &[u16],
     arrays: usize,
     i: usize,
-    reached: Shape,
+    reached: Reached,
     rowwise: &[u32],
     columnwise: &[u32],
     sheet: &[u32],
@@ -170,7 +189,12 @@ fn scaled_calls(
         nextBy singles (now (key .entry)) (now (rowwise .entry)) (now (columnwise .entry)) (now (sheet .entry)) i ⌝ }
 {
     let to = indexed::behind(key, starts, arrays, i);
-    let mut sums = Sums { a: 0, b: 0, c: 0 };
+    let mut sums = Sums {
+        a: 0,
+        b: 0,
+        c: 0,
+        factors: 0,
+    };
     let mut at = starts[i] as usize + 3;
     while at < to {
         let c = read::scaled_call(key, at + 1);

@@ -12,6 +12,7 @@ ghost use mathlib.Core.Path.{_≡_};
 ghost use Prim.Native.Nat.{min, _/_, _≤_};
 ghost use lib.ListN.{length};
 ghost use Rattle.field.specs.Scalars.{prime};
+ghost use Rattle.key.specs.Factors.{FactorsLimited};
 ghost use Rattle.evaluation.specs.Cell.{celled};
 ghost use Rattle.evaluation.specs.Evaluate.{evaluated};
 ghost use Rattle.evaluate.specs.Answer.{evaluatedOutcome};
@@ -25,14 +26,15 @@ pub struct Values {
 
 // What evaluate and cell answer.
 pub enum Evaluated {
-    // The last array's values.
-    Values(Values),
+    // The last array's values, and how many factors were taken for all arrays (02, E4).
+    Values(Values, usize),
     // The key, the point or place, or the sheet is at fault, and nothing is written.
     Refused(Refusal),
 }
 
 // The last array's A, B and C at a point: the multilinear extensions of its dense matrices. The sheet then holds every array's
-// three numbers, those of array i from place 3i on; places behind them stay, and a refused call leaves the whole sheet.
+// three numbers, those of array i from place 3i on; places behind them stay, and a refused call leaves the whole sheet. By `limit` the
+// factors that are answered are at most (n + n')·(cells + calls).
 pub fn evaluate(key: &[u8], rows: &[u32], columns: &[u32], sheet: &mut [u32]) -> Evaluated
     ensures answer { λ r. ⌜
         evaluatedOutcome r ≡
@@ -40,6 +42,7 @@ pub fn evaluate(key: &[u8], rows: &[u32], columns: &[u32], sheet: &mut [u32]) ->
     ensures sheet { λ _. ⌜
         now (sheet .exit) ≡
         evaluated prime (now (key .entry)) (now (rows .entry)) (now (columns .entry)) (now (sheet .entry)) .sheet ⌝ }
+    ensures limit { λ _. ⌜ FactorsLimited (now (key .entry)) ⌝ }
 {
     if key.len() < key::SHORT {
         let mut short = [0u16; key::SHORT_ARRAYS];
@@ -74,17 +77,18 @@ fn at_point(
     match judged {
         Checked::Refused(refusal) => Evaluated::Refused(refusal),
         Checked::Accepted(counts) => {
-            pass::run(&*key, starts, counts.arrays, &*rows, &*columns, sheet);
-            Evaluated::Values(pass::last(sheet, counts.arrays))
+            let factors = pass::run(&*key, starts, counts.arrays, &*rows, &*columns, sheet);
+            Evaluated::Values(pass::last(sheet, counts.arrays), factors)
         }
     }
 }
 
 // The last array's dense A, B and C at a row and a column. The sheet is then as after evaluate at the point whose coordinates
-// are the bits of the row and of the column, and a refused call leaves it.
+// are the bits of the row and of the column, and a refused call leaves it. The factors are those of that evaluation.
 pub fn cell(key: &[u8], row: u32, column: u32, sheet: &mut [u32]) -> Evaluated
     ensures answer { λ r. ⌜ evaluatedOutcome r ≡ celled (now (key .entry)) row column (now (sheet .entry)) .answer ⌝ }
     ensures sheet { λ _. ⌜ now (sheet .exit) ≡ celled (now (key .entry)) row column (now (sheet .entry)) .sheet ⌝ }
+    ensures limit { λ _. ⌜ FactorsLimited (now (key .entry)) ⌝ }
 {
     if key.len() < key::SHORT {
         let mut short = [0u16; key::SHORT_ARRAYS];
@@ -110,8 +114,8 @@ fn at_place(key: &[u8], row: u32, column: u32, sheet: &mut [u32], starts: &mut [
             let mut columns = [0u32; 30];
             point::bits(row, &mut rows);
             point::bits(column, &mut columns);
-            pass::run(&*key, starts, counts.arrays, &rows, &columns, sheet);
-            Evaluated::Values(pass::last(sheet, counts.arrays))
+            let factors = pass::run(&*key, starts, counts.arrays, &rows, &columns, sheet);
+            Evaluated::Values(pass::last(sheet, counts.arrays), factors)
         }
     }
 }

@@ -1,8 +1,8 @@
 -- An answer is determined by what it says.
-use mathlib.Core.Path.{_≡_, sym, ap}
+use mathlib.Core.Path.{_≡_, sym, ap, ap₂}
 use Rattle.refusal.proofs.Outcomes.{given-injective, refusal-injective, given-not-refused}
 use Rattle.quadratic.specs.Quadratic.{quadratic}
-use Rattle.evaluation.specs.Evaluate.{ValuesOf}
+use Rattle.evaluation.specs.Evaluate.{ValuesOf, Counted}
 use Rattle.evaluate_quadratic.specs.Answer.{valuesIn, evaluatedOutcome}
 use Rattle.evaluate_quadratic.specs.declared.Evaluated.{Evaluated}
 use Rattle.evaluate_quadratic.specs.declared.Values.{Values as Answered}
@@ -20,7 +20,9 @@ values-injective v w e =
     }
 
 pub evaluated-injective : (r s : Evaluated) → evaluatedOutcome r ≡ evaluatedOutcome s → r ≡ s
-evaluated-injective (Evaluated.Values v) (Evaluated.Values w) e = ap Evaluated.Values (values-injective v w (given-injective e))
-evaluated-injective (Evaluated.Values v) (Evaluated.Refused g) e = absurd (given-not-refused e)
-evaluated-injective (Evaluated.Refused f) (Evaluated.Values w) e = absurd (given-not-refused (sym e))
+evaluated-injective (Evaluated.Values v m) (Evaluated.Values w n) e =
+    let same = given-injective e in
+    ap₂ Evaluated.Values (values-injective v w (ap (λ (x : Counted quadratic). x .values) same)) (ap (λ (x : Counted quadratic). x .factors) same)
+evaluated-injective (Evaluated.Values v m) (Evaluated.Refused g) e = absurd (given-not-refused e)
+evaluated-injective (Evaluated.Refused f) (Evaluated.Values w n) e = absurd (given-not-refused (sym e))
 evaluated-injective (Evaluated.Refused f) (Evaluated.Refused g) e = ap Evaluated.Refused (refusal-injective f g e)

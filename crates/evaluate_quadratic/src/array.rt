@@ -1,9 +1,10 @@
-// One array of an accepted key: its values from those of the arrays before it.
+// One array of an accepted key: its values, from those of the arrays before it, and how many factors they take.
 use crate::Values;
 use crate::entry;
 use crate::entry::Sums;
 use records::Shape;
 use records::read;
+use weights::side::Reached;
 use weights_quadratic::side;
 ghost use mathlib.Core.Path.{_≡_};
 ghost use mathlib.Core.Bool.{true, false};
@@ -16,12 +17,17 @@ ghost use Rattle.weights_quadratic.specs.Packed.{packed};
 ghost use Rattle.key.specs.KeyArrays.{keyArrays, keyScaled};
 ghost use Rattle.key.specs.Indexed.{Indexed, Sparse, Recursive};
 ghost use Rattle.evaluation.specs.Inner.{Sides, ReachedIn, Filled, nextBy};
-ghost use Rattle.evaluate_quadratic.specs.Answer.{valuesIn};
-ghost use Rattle.evaluate_quadratic.specs.Inner.{reducedIn};
+ghost use Rattle.evaluate_quadratic.specs.Inner.{countedIn, reducedIn};
 
-// The values of array i, in a key that has so many arrays: the sums of what its entries add. The two sides of the point have as many
-// coordinates as `most` has bits. Inner: the key is accepted and indexed, the tables are ones for it, and the values of the arrays
-// before stand on the sheet.
+// The values of an array, and how many factors its entries took (02, E4).
+pub(crate) struct Counted {
+    pub values: Values,
+    pub factors: usize,
+}
+
+// The values and the factors of array i, in a key that has so many arrays: the sums of what its entries add. The two sides of the point
+// have as many coordinates as `most` has bits. Inner: the key is accepted and indexed, the tables are ones for it, and the values of the
+// arrays before stand on the sheet.
 pub(crate) fn values(
     key: &[u8],
     starts: &[u16],
@@ -31,36 +37,39 @@ pub(crate) fn values(
     rowwise: &[u64],
     columnwise: &[u64],
     sheet: &[u32],
-) -> Values
+) -> Counted
     requires { ⌜ Indexed (now key) (now starts) ⌝ }
     requires { ⌜ arrays ≡ length (keyArrays (now key)) ⌝ }
     requires { ⌜ i < arrays ⌝ }
     requires { ⌜ Sides packed (now key) most (now rowwise) (now columnwise) ⌝ }
     requires { ⌜ Filled quadratic i (now sheet) ⌝ }
     ensures { λ r. ⌜
-        valuesIn r ≡
+        countedIn r ≡
         nextBy packed (now (key .entry)) (now (rowwise .entry)) (now (columnwise .entry)) (now (sheet .entry)) i ⌝ }
 {
     let own = indexed::shape(key, starts, i);
-    let reached = Shape {
+    let reached = Reached {
         rows: side::reach(own.rows, most.rows, rowwise),
         columns: side::reach(own.columns, most.columns, columnwise),
     };
     let sums = total(key, starts, arrays, i, reached, rowwise, columnwise, sheet);
-    Values {
-        a: sums.a.element(),
-        b: sums.b.element(),
-        c: sums.c.element(),
+    Counted {
+        values: Values {
+            a: sums.a.element(),
+            b: sums.b.element(),
+            c: sums.c.element(),
+        },
+        factors: sums.factors,
     }
 }
 
-// The same, not reduced yet, where weights are taken over so many bits. Inner: as for `values`, and they may be taken so far.
+// The same, not reduced yet. Inner: as for `values`, and these are the array's bits, over which weights may be taken so far.
 fn total(
     key: &[u8],
     starts: &[u16],
     arrays: usize,
     i: usize,
-    reached: Shape,
+    reached: Reached,
     rowwise: &[u64],
     columnwise: &[u64],
     sheet: &[u32],
@@ -90,7 +99,7 @@ fn cells(
     starts: &[u16],
     arrays: usize,
     i: usize,
-    reached: Shape,
+    reached: Reached,
     rowwise: &[u64],
     columnwise: &[u64],
 ) -> Sums
@@ -119,7 +128,7 @@ fn calls(
     starts: &[u16],
     arrays: usize,
     i: usize,
-    reached: Shape,
+    reached: Reached,
     rowwise: &[u64],
     columnwise: &[u64],
     sheet: &[u32],
@@ -152,7 +161,7 @@ fn scaled_calls(
     starts: &[u16],
     arrays: usize,
     i: usize,
-    reached: Shape,
+    reached: Reached,
     rowwise: &[u64],
     columnwise: &[u64],
     sheet: &[u32],

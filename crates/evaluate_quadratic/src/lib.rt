@@ -11,6 +11,7 @@ ghost use mathlib.Core.Path.{_≡_};
 ghost use Prim.Native.Nat.{min, _/_, _≤_};
 ghost use lib.ListN.{length};
 ghost use Rattle.quadratic.specs.Quadratic.{quadratic};
+ghost use Rattle.key.specs.Factors.{FactorsLimited};
 ghost use Rattle.evaluation.specs.Evaluate.{evaluated};
 ghost use Rattle.evaluate_quadratic.specs.Answer.{evaluatedOutcome};
 
@@ -23,15 +24,15 @@ pub struct Values {
 
 // What evaluate answers.
 pub enum Evaluated {
-    // The last array's values.
-    Values(Values),
+    // The last array's values, and how many factors were taken for all arrays (02, E4).
+    Values(Values, usize),
     // The key, the point or the sheet is at fault, and nothing is written.
     Refused(Refusal),
 }
 
 // The last array's A, B and C at a point, two numbers a coordinate, u first: the multilinear extensions of its dense matrices. The sheet
 // then holds every array's six numbers, those of array i from place 6i on, A, B and C in turn, u before v; places behind them stay, and a
-// refused call leaves the whole sheet.
+// refused call leaves the whole sheet. The factors that are answered are one for each coordinate, as over the field of p.
 pub fn evaluate(key: &[u8], rows: &[u32], columns: &[u32], sheet: &mut [u32]) -> Evaluated
     ensures answer { λ r. ⌜
         evaluatedOutcome r ≡
@@ -39,6 +40,7 @@ pub fn evaluate(key: &[u8], rows: &[u32], columns: &[u32], sheet: &mut [u32]) ->
     ensures sheet { λ _. ⌜
         now (sheet .exit) ≡
         evaluated quadratic (now (key .entry)) (now (rows .entry)) (now (columns .entry)) (now (sheet .entry)) .sheet ⌝ }
+    ensures limit { λ _. ⌜ FactorsLimited (now (key .entry)) ⌝ }
 {
     if key.len() < key::SHORT {
         let mut short = [0u16; key::SHORT_ARRAYS];
@@ -70,8 +72,8 @@ fn at_point(
     match judged {
         Checked::Refused(refusal) => Evaluated::Refused(refusal),
         Checked::Accepted(counts) => {
-            pass::run(&*key, starts, counts.arrays, &*rows, &*columns, sheet);
-            Evaluated::Values(pass::last(sheet, counts.arrays))
+            let factors = pass::run(&*key, starts, counts.arrays, &*rows, &*columns, sheet);
+            Evaluated::Values(pass::last(sheet, counts.arrays), factors)
         }
     }
 }

@@ -13,15 +13,16 @@ ghost use lib.ListN.{length};
 ghost use Rattle.quadratic.specs.Quadratic.{quadratic};
 ghost use Rattle.weights.specs.Side.{Ready};
 ghost use Rattle.weights_quadratic.specs.Packed.{packed};
+ghost use Rattle.key.specs.Factors.{keyFactors};
 ghost use Rattle.key.specs.KeyArrays.{keyArrays};
 ghost use Rattle.key.specs.Indexed.{Indexed};
 ghost use Rattle.judge.specs.Inner.{AtPoint};
 ghost use Rattle.evaluation.specs.Inner.{Sides, Filled, sheetValues, passedBy, writtenBy};
 ghost use Rattle.evaluate_quadratic.specs.Answer.{valuesIn};
 
-// Writes every array's values on the sheet: the extensions of their dense matrices. The sides of the point are prepared with weights of
-// limbs where these are estimated to save more than they cost (`work`). Inner: the key is accepted and indexed, the point is one for it,
-// and the sheet has places for all.
+// Writes every array's values on the sheet, the extensions of their dense matrices, and answers how many factors were taken. The sides of
+// the point are prepared with weights of limbs where these are estimated to save more than they cost (`work`). Inner: the key is accepted
+// and indexed, the point is one for it, and the sheet has places for all.
 //
 // What is lent is borrowed anew where it is handed on, as in `evaluate::at_point`.
 pub(crate) fn run(
@@ -31,12 +32,13 @@ pub(crate) fn run(
     rows: &[u32],
     columns: &[u32],
     sheet: &mut [u32],
-)
+) -> usize
     requires { ⌜ Indexed (now key) (now starts) ⌝ }
     requires { ⌜ arrays ≡ length (keyArrays (now key)) ⌝ }
     requires { ⌜ AtPoint quadratic (now key) (now rows) (now columns) ⌝ }
     requires { ⌜ 6 * arrays ≤ length (now sheet) ⌝ }
-    ensures { λ _. ⌜
+    ensures factors { λ r. ⌜ r ≡ keyFactors (now (key .entry)) ⌝ }
+    ensures sheet { λ _. ⌜
         now (sheet .exit) ≡
         writtenBy quadratic (now (key .entry)) (now (rows .entry)) (now (columns .entry)) arrays (now (sheet .entry)) ⌝ }
 {
@@ -79,13 +81,14 @@ fn by_sides(
     rowwise: &mut [u64],
     columnwise: &mut [u64],
     sheet: &mut [u32],
-)
+) -> usize
     requires { ⌜ Indexed (now key) (now starts) ⌝ }
     requires { ⌜ arrays ≡ length (keyArrays (now key)) ⌝ }
     requires { ⌜ AtPoint quadratic (now key) (now rows) (now columns) ⌝ }
     requires { ⌜ 6 * arrays ≤ length (now sheet) ⌝ }
     requires { ⌜ Ready packed (now rowwise) × Ready packed (now columnwise) ⌝ }
-    ensures { λ _. ⌜
+    ensures factors { λ r. ⌜ r ≡ keyFactors (now (key .entry)) ⌝ }
+    ensures sheet { λ _. ⌜
         now (sheet .exit) ≡
         writtenBy quadratic (now (key .entry)) (now (rows .entry)) (now (columns .entry)) arrays (now (sheet .entry)) ⌝ }
 {
@@ -99,7 +102,8 @@ fn by_sides(
 }
 
 // Writes every array's values on the sheet, each from those of the arrays before it, by the prepared sides of a point, which have as many
-// coordinates as `most` has bits. Inner: the key is accepted and indexed, the tables are ones for it, and the sheet has places for all.
+// coordinates as `most` has bits, and answers how many factors were taken. Inner: the key is accepted and indexed, the tables are ones for
+// it, and the sheet has places for all.
 pub fn over(
     key: &[u8],
     starts: &[u16],
@@ -108,19 +112,23 @@ pub fn over(
     rowwise: &[u64],
     columnwise: &[u64],
     sheet: &mut [u32],
-)
+) -> usize
     requires { ⌜ Indexed (now key) (now starts) ⌝ }
     requires { ⌜ arrays ≡ length (keyArrays (now key)) ⌝ }
     requires { ⌜ Sides packed (now key) most (now rowwise) (now columnwise) ⌝ }
     requires { ⌜ 6 * arrays ≤ length (now sheet) ⌝ }
-    ensures { λ _. ⌜
+    ensures factors { λ r. ⌜ r ≡ keyFactors (now (key .entry)) ⌝ }
+    ensures sheet { λ _. ⌜
         now (sheet .exit) ≡
         passedBy packed (now (key .entry)) (now (rowwise .entry)) (now (columnwise .entry)) arrays (now (sheet .entry)) ⌝ }
 {
+    let mut factors = 0;
     for i in 0..arrays {
-        let values = array::values(key, starts, arrays, i, most, rowwise, columnwise, sheet);
-        sheet::put(sheet, i, values);
+        let counted = array::values(key, starts, arrays, i, most, rowwise, columnwise, sheet);
+        sheet::put(sheet, i, counted.values);
+        factors = factors + counted.factors;
     }
+    factors
 }
 
 // The last array's values, where those of so many arrays stand on the sheet. Inner: there is a last array, and all are below p.

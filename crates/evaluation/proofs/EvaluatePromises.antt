@@ -18,7 +18,7 @@ use Rattle.key.specs.declared.Counts.{Counts}
 use Rattle.key.proofs.Acceptance.{acceptance}
 use Rattle.judge.specs.Judged.{sheetJudged}
 use Rattle.judge.proofs.JudgementsInOrder.{Admitted}
-use Rattle.evaluation.specs.Evaluate.{ValuesOf, Evaluation, concluded}
+use Rattle.evaluation.specs.Evaluate.{ValuesOf, Counted, Evaluation, concluded}
 use Rattle.evaluation.specs.Sheet.{wordsOf, placesOf, laid}
 
 -- an accepted key's counts are those of its arrays
@@ -43,14 +43,14 @@ module _ (key : List ℕ) (counts : Counts) (accepted : checkedKey key ≡ given
       }
 
 -- an answer that is given was admitted
-pub answered : (𝓢 : Scalars) (o : Outcome Counts) (last : Counts → ValuesOf 𝓢) (each : Counts → ℕ → ValuesOf 𝓢) (sheet : List ℕ)
-    (values : ValuesOf 𝓢) → concluded 𝓢 o last each sheet .answer ≡ given values → (counts : Counts) × (o ≡ given counts)
+pub answered : (𝓢 : Scalars) (o : Outcome Counts) (last : Counts → Counted 𝓢) (each : Counts → ℕ → ValuesOf 𝓢) (sheet : List ℕ)
+    (counted : Counted 𝓢) → concluded 𝓢 o last each sheet .answer ≡ given counted → (counts : Counts) × (o ≡ given counts)
 unfolding concluded
-answered 𝓢 (given counts) last each sheet values e = (counts, refl)
-answered 𝓢 (refused number place) last each sheet values e = absurd (given-not-refused (sym e))
+answered 𝓢 (given counts) last each sheet counted e = (counts, refl)
+answered 𝓢 (refused number place) last each sheet counted e = absurd (given-not-refused (sym e))
 
 -- what is answered and left on the sheet, by what the judgements come to
-module _ (𝓢 : Scalars) (o : Outcome Counts) (last : Counts → ValuesOf 𝓢) (each : Counts → ℕ → ValuesOf 𝓢) (sheet : List ℕ) where
+module _ (𝓢 : Scalars) (o : Outcome Counts) (last : Counts → Counted 𝓢) (each : Counts → ℕ → ValuesOf 𝓢) (sheet : List ℕ) where
   pub concluded-refused : (number place : ℕ) → refused number place ≡ o →
       (refused number place ≡ concluded 𝓢 o last each sheet .answer) × (sheet ≡ concluded 𝓢 o last each sheet .sheet)
   unfolding concluded
@@ -69,20 +69,22 @@ module _ (𝓢 : Scalars) (o : Outcome Counts) (last : Counts → ValuesOf 𝓢)
   )
 
 module _ (𝓢 : Scalars) (first : Outcome Counts) (judge : Counts → Outcome Counts) (Holds : Counts → Type 0) (sheet : List ℕ)
-    (admitted : Checked) (call : Admitted first judge Holds (placesOf 𝓢) (length sheet) admitted) (last : Counts → ValuesOf 𝓢)
+    (admitted : Checked) (call : Admitted first judge Holds (placesOf 𝓢) (length sheet) admitted) (last : Counts → Counted 𝓢)
     (each : Counts → ℕ → ValuesOf 𝓢) where
   abbrev promise : Evaluation 𝓢
   promise = concluded 𝓢 (andThen (andThen first judge) (sheetJudged (placesOf 𝓢) (length sheet))) last each sheet
 
   -- what is promised of an answer and of the sheet afterwards
-  abbrev pub Promise : Outcome (ValuesOf 𝓢) → List ℕ → Type 0
+  abbrev pub Promise : Outcome (Counted 𝓢) → List ℕ → Type 0
   Promise answer after = (answer ≡ promise .answer) × (after ≡ promise .sheet)
 
   pub refused-promise : (f : Refusal) → admitted ≡ Checked.Refused f → Promise (refusalOf f) sheet
   refused-promise f e = concluded-refused 𝓢 _ last each sheet _ _ (sym (ap checkedOutcome e) ∙ call .admits)
 
-  pub given-promise : (counts : Counts) → admitted ≡ Checked.Accepted counts → (values : ValuesOf 𝓢) (after : List ℕ) →
-      values ≡ last counts → after ≡ laid 0 (λ i. wordsOf 𝓢 (each counts i)) (counts .arrays) sheet → Promise (given values) after
-  given-promise counts e values after v w =
+  pub given-promise : (counts : Counts) → admitted ≡ Checked.Accepted counts → (values : ValuesOf 𝓢) (factors : ℕ) (after : List ℕ) →
+      values ≡ last counts .values → factors ≡ last counts .factors →
+      after ≡ laid 0 (λ i. wordsOf 𝓢 (each counts i)) (counts .arrays) sheet →
+      Promise (given (record { values = values; factors = factors })) after
+  given-promise counts e values factors after v n w =
       let done = concluded-given 𝓢 _ last each sheet counts (sym (ap checkedOutcome e) ∙ call .admits) in
-      (ap given v ∙ done .0, w ∙ done .1)
+      ((λ t. given (record { values = v t; factors = n t })) ∙ done .0, w ∙ done .1)

@@ -8,9 +8,8 @@ use Rattle.refusal.specs.Outcome.{Outcome, given, refused}
 use Rattle.field.specs.Fp.{p}
 use Rattle.field.specs.Scalars.{prime}
 use Rattle.records.proofs.Examples.{key}
-use Rattle.arrays.specs.Arrays.{Values}
 use Rattle.evaluation.specs.Cell.{celled}
-use Rattle.evaluation.specs.Evaluate.{Evaluation, evaluated}
+use Rattle.evaluation.specs.Evaluate.{Counted, Evaluation, evaluated}
 use Rattle.evaluation.proofs.Computing.{evaluating}
 
 -- every array's numbers, and behind them what was there
@@ -18,16 +17,16 @@ sheet : evaluated prime key (3 ∷ []) (4 ∷ []) (replicate 8 9) .sheet ≡ 20 
 unfolding evaluating
 sheet = refl
 
--- the two calls both put the cell at row 0 and column 1
-abbrev answer : Evaluation prime → Outcome Values
+-- the two calls both put the cell at row 0 and column 1; three factors are taken everywhere: one for the cell and one for each call
+abbrev answer : Evaluation prime → Outcome (Counted prime)
 answer e = e .answer
 
 cells :
     map (λ (place : ℕ × ℕ). celled key (place .0) (place .1) (replicate 6 9) .answer) ((0, 0) ∷ (0, 1) ∷ (1, 0) ∷ (1, 1) ∷ []) ≡
-    given (record { a = 0; b = 0; c = 0 }) ∷
-    given (record { a = 10; b = 14; c = 0 }) ∷
-    given (record { a = 0; b = 0; c = 0 }) ∷
-    given (record { a = 0; b = 0; c = 0 }) ∷ []
+    given (record { values = record { a = 0; b = 0; c = 0 }; factors = 3 }) ∷
+    given (record { values = record { a = 10; b = 14; c = 0 }; factors = 3 }) ∷
+    given (record { values = record { a = 0; b = 0; c = 0 }; factors = 3 }) ∷
+    given (record { values = record { a = 0; b = 0; c = 0 }; factors = 3 }) ∷ []
 unfolding evaluating
 cells = refl
 

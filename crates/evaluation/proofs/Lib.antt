@@ -8,15 +8,17 @@ pub mod UnscaledCalls
 pub mod SumOfEntries
 -- The cell or the call that is read at an offset is the array's next entry, and is added to the sum.
 pub mod NextEntryAdded
--- Where no entry is left, the sum is the array's values.
+-- Where no entry is left, the sum is the array's values and its factors.
 pub mod SumIsArrayValues
 -- The sheet as the pass fills it: behind i arrays it holds their values, and the next array's values are worked out from them.
 pub mod SheetDuringPass
+-- The factors of the arrays before one, as the pass adds them up, and that they are the key's behind all arrays.
+pub mod FactorsSoFar
 -- The values of the pass are the extensions of the dense matrices (004, Lemma 2).
 pub mod PassIsExtension
 -- What the sheet holds behind the whole pass: every array's extensions, those of the last among them.
 pub mod SheetAfterPass
--- The sides of a point, prepared as tables, in any field: they weigh as its coordinates do, over so many bits and over more.
+-- The sides of a point, prepared as tables, in any field: they weigh as its coordinates do.
 pub mod PreparedSides
 -- What evaluate and cell promise, from what their judgements and their pass give.
 pub mod EvaluatePromises

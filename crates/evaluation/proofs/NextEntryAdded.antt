@@ -1,13 +1,12 @@
 -- The cell or the call that is read at an offset is the array's next entry, and is added to the sum.
-use Prim.Native.Nat.{ℕ, _+_, _-_, _^_, _≤_, _<_}
+use Prim.Native.Nat.{ℕ, _+_, _≤_, _<_}
 use mathlib.Core.Bool.{Bool, true, false}
 use mathlib.Core.List.{List, [], _∷_}
 use mathlib.Core.Path.{_≡_, sym, ap, ap₂, subst, _∙_}
 use native.Mathlib.Nat.{mul-le-mul-left}
 use native.Mathlib.Omega.{arith}
 use lib.ListN.{length, getD, drop}
-use Rattle.algebra.specs.Arithmetic.{Arithmetic}
-use Rattle.field.specs.Scalars.{Scalars, prime}
+use Rattle.field.specs.Scalars.{Scalars}
 use Rattle.records.specs.Inner.{callSize}
 use Rattle.records.specs.Kinds.{cellFields, callFields, scaledCallFields}
 use Rattle.records.specs.Layout.{fieldsIn}
@@ -15,27 +14,19 @@ use Rattle.records.specs.Take.{takenOutcome, takenAt}
 use Rattle.records.specs.declared.Call.{Call as CallRecord}
 use Rattle.records.specs.declared.Cell.{Cell as CellRecord}
 use Rattle.records.specs.declared.ScaledCall.{ScaledCall}
-use Rattle.records.specs.declared.Shape.{Shape}
 use Rattle.records.specs.declared.Taken.{Taken}
 use Rattle.records.proofs.PresentIsTaken.{taken-present}
-use Rattle.arrays.specs.Arrays.{Cell, Call, Array, arrayAt}
+use Rattle.arrays.specs.Arrays.{Call, Array, arrayAt}
 use Rattle.arrays.specs.Placing.{blocks}
 use Rattle.arrays.specs.Side.{Side}
 use Rattle.arrays.specs.WellFormed.{CellFits, CallFits}
 use Rattle.key.specs.Encoding.{cellRecord, callRecord, FactorIn}
 use Rattle.key.specs.KeyArrays.{cellIn, callIn, scaledCallIn, keyArrays, keyScaled}
 use Rattle.key.proofs.Encodings.{call-length}
-use Rattle.evaluation.specs.Embedded.{sameValuesIn}
-use Rattle.evaluation.specs.Evaluate.{ValuesOf}
-use Rattle.evaluation.specs.Inner.{Filled, Called, ValuesBelow, sheetValues, addedTo, cellAdded, callAdded}
+use Rattle.evaluation.specs.Evaluate.{Counted}
+use Rattle.evaluation.specs.Inner.{Filled, Called, cellAdded, callAdded}
 use Rattle.evaluation.specs.Sheet.{placesOf}
-use Rattle.evaluation.proofs.SumOfEntries.{CellsLeft, CallsLeft, CellNext, CallNext, callWeight, cell-next, call-next}
-
--- on a side, weights over the first k bits may as well be taken over the first `to`
-pub record Further (𝓐 : Arithmetic) (S : Side 𝓐) (k to : ℕ) : Type 0 where
-  pub further : k ≤ to
-  pub weighs : (a : ℕ) → a < 2 ^ k → S .weigh to a ≡ S .weigh k a
-  pub factors : (K a : ℕ) → K ≤ k → a < 2 ^ (k - K) → S .factor to K a ≡ S .factor k K a
+use Rattle.evaluation.proofs.SumOfEntries.{CellsLeft, CallsLeft, CellNext, CallNext, cell-next, call-next}
 
 -- the call that is read where a call of an edition stands is that call
 plain-call : (key : List ℕ) (at : ℕ) (call : Call) (next : ℕ) →
@@ -59,13 +50,10 @@ scaled-call key at call next taken c read =
     let factor = ap (λ (list : List ℕ). getD list 3 0) fields in
     λ t. record { id = id t; down = down t; right = right t; factor = factor t }
 
-module _ (𝓢 : Scalars) (key : List ℕ) (S S' : Side (𝓢 .arithmetic)) (sheet : List ℕ) (i to : ℕ) (reached : Shape)
-    (far : Further (𝓢 .arithmetic) S (arrayAt (keyArrays key) i .row-bits) (reached .rows))
-    (far' : Further (𝓢 .arithmetic) S' (arrayAt (keyArrays key) i .column-bits) (reached .columns))
-    (sum : ValuesOf 𝓢) (at : ℕ) (l : at < to) where
-  abbrev mul : 𝓢 .arithmetic .Carrier → 𝓢 .arithmetic .Carrier → 𝓢 .arithmetic .Carrier
-  mul = 𝓢 .arithmetic .mul
-
+-- where array i has k row bits and k' column bits
+module _ (𝓢 : Scalars) (key : List ℕ) (S S' : Side (𝓢 .arithmetic)) (sheet : List ℕ) (i to k k' : ℕ)
+    (rows : k ≡ arrayAt (keyArrays key) i .row-bits) (columns : k' ≡ arrayAt (keyArrays key) i .column-bits) (sum : Counted 𝓢) (at : ℕ)
+    (l : at < to) where
   abbrev own : Array
   own = arrayAt (keyArrays key) i
 
@@ -89,21 +77,14 @@ module _ (𝓢 : Scalars) (key : List ℕ) (S S' : Side (𝓢 .arithmetic)) (she
           let c = ap (λ (list : List ℕ). getD list 4 0) fields in
           λ t. record { row = row t; column = column t; values = record { a = a t; b = b t; c = c t } }
 
-      fits : CellFits (own .row-bits) (own .column-bits) (cellIn c)
-      fits = subst (CellFits (own .row-bits) (own .column-bits)) same-cell (cell .fits)
+      pub cell-fits : CellFits k k' (cellIn c)
+      cell-fits = rw (rows, columns) (subst (CellFits (own .row-bits) (own .column-bits)) same-cell (cell .fits))
 
-      pub cell-below : ValuesBelow prime (cellIn c .values)
-      cell-below = record { a-below = (fits .a-below, tt); b-below = (fits .b-below, tt); c-below = (fits .c-below, tt) }
-
-      pub cell-added : (more : ValuesOf 𝓢) → more ≡ cellAdded 𝓢 S S' (reached .rows) (reached .columns) sum c →
-          CellsLeft 𝓢 key S S' sheet i to more (at + 21)
+      pub cell-added : (more : Counted 𝓢) → more ≡ cellAdded 𝓢 S S' k k' sum (cellIn c) → CellsLeft 𝓢 key S S' sheet i to more (at + 21)
       cell-added more m =
-          subst (λ (v : ValuesOf 𝓢). CellsLeft 𝓢 key S S' sheet i to v (at + 21))
-          (ap (λ (x : Cell).
-          addedTo 𝓢 sum (sameValuesIn 𝓢 (x .values)) (mul (S .weigh (own .row-bits) (x .row)) (S' .weigh (own .column-bits) (x .column))))
-          same-cell
-          ∙ ap (addedTo 𝓢 sum (sameValuesIn 𝓢 (cellIn c .values)))
-          (sym (ap₂ mul (far .weighs (c .row) (fits .row-inside)) (far' .weighs (c .column) (fits .column-inside))))
+          subst (λ (v : Counted 𝓢). CellsLeft 𝓢 key S S' sheet i to v (at + 21))
+          (ap (cellAdded 𝓢 S S' (own .row-bits) (own .column-bits) sum) same-cell
+          ∙ ap₂ (λ (n n' : ℕ). cellAdded 𝓢 S S' n n' sum (cellIn c)) (sym rows) (sym columns)
           ∙ sym m)
           (cell .onward)
 
@@ -131,49 +112,40 @@ module _ (𝓢 : Scalars) (key : List ℕ) (S S' : Side (𝓢 .arithmetic)) (she
 
     -- the next call
     module _ (c : Call) (is : call .c ≡ c) where
-      next-fits : CallFits blocks blocks (keyArrays key) i (own .row-bits) (own .column-bits) c
-      next-fits = subst (CallFits blocks blocks (keyArrays key) i (own .row-bits) (own .column-bits)) is (call .fits)
+      next-fits : CallFits blocks blocks (keyArrays key) i k k' c
+      next-fits = rw (rows, columns) (subst (CallFits blocks blocks (keyArrays key) i (own .row-bits) (own .column-bits)) is (call .fits))
 
-      next-called : i < length (keyArrays key) → Filled 𝓢 i sheet → Called 𝓢 (keyArrays key) sheet reached c
+      next-called : i < length (keyArrays key) → Filled 𝓢 i sheet → Called 𝓢 (keyArrays key) sheet k k' c
       next-called inside filled =
           record {
             factor-below = next-fits .factor-below;
             there = omega (arith, next-fits .earlier);
-            rows-fit = omega (arith, next-fits .rows-fit, far .further);
-            columns-fit = omega (arith, next-fits .columns-fit, far' .further);
+            rows-fit = next-fits .rows-fit;
+            columns-fit = next-fits .columns-fit;
+            down-inside = next-fits .down-inside;
+            right-inside = next-fits .right-inside;
             on-sheet = omega (arith, mul-le-mul-left (placesOf 𝓢) (next-fits .earlier), filled .room);
             below = filled .below (c .id) (next-fits .earlier);
           }
 
-      here-added : (more : ValuesOf 𝓢) →
-          more ≡ callAdded 𝓢 (keyArrays key) S S' sheet (reached .rows) (reached .columns) sum c →
-          CallsLeft 𝓢 key S S' sheet i to more (at + callSize (keyScaled key))
-      here-added more m =
-          subst (λ (v : ValuesOf 𝓢). CallsLeft 𝓢 key S S' sheet i to v (at + callSize (keyScaled key)))
-          (ap (λ (x : Call). addedTo 𝓢 sum (sheetValues 𝓢 sheet (x .id)) (callWeight 𝓢 key S S' sheet i to x)) is
-          ∙ ap (λ (w : 𝓢 .arithmetic .Carrier). addedTo 𝓢 sum (sheetValues 𝓢 sheet (c .id)) (mul (𝓢 .embed (c .factor)) w))
-          (sym (ap₂ mul
-          (far .factors (arrayAt (keyArrays key) (c .id) .row-bits) (c .down) (next-fits .rows-fit) (next-fits .down-inside))
-          (far' .factors (arrayAt (keyArrays key) (c .id) .column-bits) (c .right)
-          (next-fits .columns-fit) (next-fits .right-inside))))
-          ∙ sym m)
-          (call .onward)
-
-      next-added : (scaled : Bool) → keyScaled key ≡ scaled → (more : ValuesOf 𝓢) →
-          more ≡ callAdded 𝓢 (keyArrays key) S S' sheet (reached .rows) (reached .columns) sum c →
-          CallsLeft 𝓢 key S S' sheet i to more (at + callSize scaled)
+      next-added : (scaled : Bool) → keyScaled key ≡ scaled → (more : Counted 𝓢) →
+          more ≡ callAdded 𝓢 (keyArrays key) S S' sheet k k' sum c → CallsLeft 𝓢 key S S' sheet i to more (at + callSize scaled)
       next-added scaled edition more m =
-          subst (λ (s : Bool). CallsLeft 𝓢 key S S' sheet i to more (at + callSize s)) edition (here-added more m)
+          subst (λ (s : Bool). CallsLeft 𝓢 key S S' sheet i to more (at + callSize s)) edition
+          (subst (λ (v : Counted 𝓢). CallsLeft 𝓢 key S S' sheet i to v (at + callSize (keyScaled key)))
+          (ap (callAdded 𝓢 (keyArrays key) S S' sheet (own .row-bits) (own .column-bits) sum) is
+          ∙ ap₂ (λ (n n' : ℕ). callAdded 𝓢 (keyArrays key) S S' sheet n n' sum c) (sym rows) (sym columns)
+          ∙ sym m)
+          (call .onward))
 
     module _ (edition : keyScaled key ≡ false) (c : CallRecord) (read : callFields c ≡ fieldsIn (2 ∷ 4 ∷ 4 ∷ []) (drop (at + 1) key)) where
       plain : call .c ≡ callIn c
       plain = plain-call key at (call .c) _ (stands false edition) (writes false edition) c read
 
-      pub call-called : i < length (keyArrays key) → Filled 𝓢 i sheet → Called 𝓢 (keyArrays key) sheet reached (callIn c)
+      pub call-called : i < length (keyArrays key) → Filled 𝓢 i sheet → Called 𝓢 (keyArrays key) sheet k k' (callIn c)
       call-called = next-called (callIn c) plain
 
-      pub call-added : (more : ValuesOf 𝓢) →
-          more ≡ callAdded 𝓢 (keyArrays key) S S' sheet (reached .rows) (reached .columns) sum (callIn c) →
+      pub call-added : (more : Counted 𝓢) → more ≡ callAdded 𝓢 (keyArrays key) S S' sheet k k' sum (callIn c) →
           CallsLeft 𝓢 key S S' sheet i to more (at + 11)
       call-added = next-added (callIn c) plain false edition
 
@@ -182,10 +154,9 @@ module _ (𝓢 : Scalars) (key : List ℕ) (S S' : Side (𝓢 .arithmetic)) (she
       scaled : call .c ≡ scaledCallIn c
       scaled = scaled-call key at (call .c) _ (stands true edition) c read
 
-      pub scaled-call-called : i < length (keyArrays key) → Filled 𝓢 i sheet → Called 𝓢 (keyArrays key) sheet reached (scaledCallIn c)
+      pub scaled-call-called : i < length (keyArrays key) → Filled 𝓢 i sheet → Called 𝓢 (keyArrays key) sheet k k' (scaledCallIn c)
       scaled-call-called = next-called (scaledCallIn c) scaled
 
-      pub scaled-call-added : (more : ValuesOf 𝓢) →
-          more ≡ callAdded 𝓢 (keyArrays key) S S' sheet (reached .rows) (reached .columns) sum (scaledCallIn c) →
+      pub scaled-call-added : (more : Counted 𝓢) → more ≡ callAdded 𝓢 (keyArrays key) S S' sheet k k' sum (scaledCallIn c) →
           CallsLeft 𝓢 key S S' sheet i to more (at + 15)
       scaled-call-added = next-added (scaledCallIn c) scaled true edition

@@ -14,7 +14,7 @@ use Rattle.field.specs.Fp.{p, fp}
 use Rattle.field.specs.Scalars.{Scalars, prime, Lawful}
 use Rattle.multilinear.specs.Extension.{extension}
 use Rattle.multilinear.proofs.Maps.{extension-map}
-use Rattle.arrays.specs.Arrays.{Values, Array, arrayAt}
+use Rattle.arrays.specs.Arrays.{Array, arrayAt}
 use Rattle.arrays.proofs.Parts.{value-by, values-same}
 use Rattle.key.specs.Check.{checkedKey}
 use Rattle.key.specs.KeyArrays.{keyArrays}
@@ -22,8 +22,8 @@ use Rattle.key.specs.declared.Counts.{Counts}
 use Rattle.judge.specs.Judged.{pointJudged}
 use Rattle.judge.proofs.JudgementsInOrder.{given-known}
 use Rattle.judge.proofs.NothingRefused.{PointOf, point-of, point-gives}
-use Rattle.evaluation.specs.Embedded.{sameNumbersIn, sameValuesIn}
-use Rattle.evaluation.specs.Evaluate.{lastOf, denseOf, valuesAt, lastValues, evaluated}
+use Rattle.evaluation.specs.Embedded.{sameNumbersIn, sameValuesIn, sameCountedIn}
+use Rattle.evaluation.specs.Evaluate.{lastOf, denseOf, ValuesOf, Counted, valuesAt, lastValues, countedFor, evaluated}
 use Rattle.evaluation.specs.Sheet.{wordsOf, placesOf, laid}
 use Rattle.evaluation.proofs.EvaluatePromises.{answered, arrays-counted}
 use Rattle.evaluation.proofs.SheetAfterEvaluate.{answer-given, sheet-given}
@@ -83,12 +83,12 @@ module _ (𝓢 : Scalars) (𝓛 : Lawful 𝓢) where
         columns-below = below-same columns (point .columns-below);
       }
 
-  module _ (key rows columns sheet : List ℕ) (values : Values) (answer : evaluated prime key rows columns sheet .answer ≡ given values)
-      (lent : List ℕ) (room : placesOf 𝓢 * length (keyArrays key) ≤ length lent) where
+  module _ (key rows columns sheet : List ℕ) (counted : Counted prime)
+      (answer : evaluated prime key rows columns sheet .answer ≡ given counted) (lent : List ℕ) (room : placesOf 𝓢 * length (keyArrays key) ≤ length lent) where
     admitted : (counts : Counts) × (checkedKey key ≡ given counts) × PointOf 1 (counts .rows) (counts .columns) rows columns ×
         (3 * counts .arrays ≤ length sheet)
     admitted =
-        let (counts, e) = answered prime _ _ _ sheet values answer in
+        let (counts, e) = answered prime _ _ _ sheet counted answer in
         let (accepted, point, enough) =
         given-known (checkedKey key) (pointJudged 1 rows columns) _ (point-gives 1 rows columns) 3 (length sheet) counts e in
         (counts, accepted, point, enough)
@@ -109,18 +109,18 @@ module _ (𝓢 : Scalars) (𝓛 : Lawful 𝓢) where
     enough : placesOf 𝓢 * counts .arrays ≤ length lent
     enough = rw (arrays-counted key counts accepted) room
 
-    given-alike : given values ≡ given (lastValues prime key rows columns)
+    given-alike : given counted ≡ given (countedFor prime key (lastValues prime key rows columns))
     unfolding counts
     given-alike =
         sym answer
         ∙ answer-given prime key rows columns sheet counts accepted (point-of 1 rows columns counts (admitted .2)) (admitted .3)
 
-    -- where the field of p has an answer, the larger field has the same, u with v zero
-    pub same-answer : evaluated 𝓢 key (sameNumbersIn 𝓢 rows) (sameNumbersIn 𝓢 columns) lent .answer ≡ given (sameValuesIn 𝓢 values)
+    -- where the field of p has an answer, the larger field has the same: u with v zero, and as many factors
+    pub same-answer : evaluated 𝓢 key (sameNumbersIn 𝓢 rows) (sameNumbersIn 𝓢 columns) lent .answer ≡ given (sameCountedIn 𝓢 counted)
     same-answer =
         answer-given 𝓢 key (sameNumbersIn 𝓢 rows) (sameNumbersIn 𝓢 columns) lent counts accepted point enough
-        ∙ ap given (values-embedded (keyArrays key) rows columns (lastOf (keyArrays key)))
-        ∙ ap (λ (v : Values). given (sameValuesIn 𝓢 v)) (given-injective (sym given-alike))
+        ∙ ap (λ (v : ValuesOf 𝓢). given (countedFor 𝓢 key v)) (values-embedded (keyArrays key) rows columns (lastOf (keyArrays key)))
+        ∙ ap (λ (c : Counted prime). given (sameCountedIn 𝓢 c)) (given-injective (sym given-alike))
 
     -- and every array's are the same on the sheet
     pub same-sheet : evaluated 𝓢 key (sameNumbersIn 𝓢 rows) (sameNumbersIn 𝓢 columns) lent .sheet

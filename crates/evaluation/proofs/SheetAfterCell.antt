@@ -18,7 +18,7 @@ use Rattle.judge.specs.Judged.{pointJudged, placeJudged, sheetJudged}
 use Rattle.judge.proofs.JudgementsInOrder.{given-known}
 use Rattle.judge.proofs.NothingRefused.{place-gives, point-of}
 use Rattle.evaluation.specs.Cell.{denseValues, celled}
-use Rattle.evaluation.specs.Evaluate.{lastOf, valuesAt, evaluated}
+use Rattle.evaluation.specs.Evaluate.{lastOf, valuesAt, evaluated, Counted, countedFor}
 use Rattle.evaluation.specs.Sheet.{placesOf}
 use Rattle.evaluation.proofs.EvaluatePromises.{answered, concluded-given}
 use Rattle.evaluation.proofs.PlaceAsPoint.{bits-below}
@@ -36,10 +36,10 @@ bits-judged counts row column =
       columns-below = bits-below (counts .columns) column;
     })
 
-pub cell-sheet : (key : List ℕ) (row column : ℕ) (sheet : List ℕ) (counts : Counts) (values : Values) →
-    checkedKey key ≡ given counts → celled key row column sheet .answer ≡ given values →
+pub cell-sheet : (key : List ℕ) (row column : ℕ) (sheet : List ℕ) (counts : Counts) (counted : Counted prime) →
+    checkedKey key ≡ given counts → celled key row column sheet .answer ≡ given counted →
     celled key row column sheet .sheet ≡ evaluated prime key (bits fp (counts .rows) row) (bits fp (counts .columns) column) sheet .sheet
-cell-sheet key row column sheet counts values accepted e =
+cell-sheet key row column sheet counts counted accepted e =
     sym (concluded-given prime _ last each sheet counts (sym at-place) .1)
     ∙ sym (sheet-given prime key rows columns sheet counts accepted (bits-judged counts row column) room)
   where
@@ -49,8 +49,8 @@ cell-sheet key row column sheet counts values accepted e =
     columns : List ℕ
     columns = bits fp (counts .columns) column
 
-    last : Counts → Values
-    last c = denseValues (keyArrays key) (lastOf (keyArrays key)) row column
+    last : Counts → Counted prime
+    last c = countedFor prime key (denseValues (keyArrays key) (lastOf (keyArrays key)) row column)
 
     each : Counts → ℕ → Values
     each c = valuesAt prime (keyArrays key) (bits fp (c .rows) row) (bits fp (c .columns) column)
@@ -59,7 +59,7 @@ cell-sheet key row column sheet counts values accepted e =
     judgements = andThen (andThen (checkedKey key) (placeJudged row column)) (sheetJudged (placesOf prime) (length sheet))
 
     admitted : (c : Counts) × (judgements ≡ given c)
-    admitted = answered prime judgements last each sheet values e
+    admitted = answered prime judgements last each sheet counted e
 
     known : (c : Counts) → judgements ≡ given c → (c ≡ counts) × (3 * c .arrays ≤ length sheet)
     known c a =

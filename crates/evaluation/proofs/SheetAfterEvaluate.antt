@@ -13,7 +13,7 @@ use Rattle.key.specs.declared.Counts.{Counts}
 use Rattle.judge.specs.Judged.{pointJudged, sheetJudged}
 use Rattle.judge.proofs.JudgementCases.{sheet-enough}
 use Rattle.judge.proofs.JudgementsInOrder.{sheet-left}
-use Rattle.evaluation.specs.Evaluate.{valuesAt, lastValues, evaluated}
+use Rattle.evaluation.specs.Evaluate.{valuesAt, lastValues, countedFor, evaluated}
 use Rattle.evaluation.specs.Sheet.{wordsOf, placesOf, laid}
 use Rattle.evaluation.proofs.EvaluatePromises.{concluded-given}
 use Rattle.evaluation.proofs.WordsOfArray.{words-places}
@@ -31,14 +31,14 @@ module _ (𝓢 : Scalars) (key rows columns sheet : List ℕ) (counts : Counts) 
   abbrev words : ℕ → List ℕ
   words i = wordsOf 𝓢 (valuesAt 𝓢 (keyArrays key) rows columns i)
 
-  done : (given (lastValues 𝓢 key rows columns) ≡ evaluated 𝓢 key rows columns sheet .answer) ×
+  done : (given (countedFor 𝓢 key (lastValues 𝓢 key rows columns)) ≡ evaluated 𝓢 key rows columns sheet .answer) ×
       (laid 0 (λ i. wordsOf 𝓢 (valuesAt 𝓢 (keyArrays key) rows columns i)) (counts .arrays) sheet ≡ evaluated 𝓢 key rows columns sheet .sheet)
   done =
-      concluded-given 𝓢 _ (λ c. lastValues 𝓢 key rows columns)
+      concluded-given 𝓢 _ (λ c. countedFor 𝓢 key (lastValues 𝓢 key rows columns))
       (λ c. valuesAt 𝓢 (keyArrays key) rows columns) sheet counts (sym admitted)
 
-  -- the answer is the last array's extensions
-  pub answer-given : evaluated 𝓢 key rows columns sheet .answer ≡ given (lastValues 𝓢 key rows columns)
+  -- the answer is the last array's extensions, and the factors of the key
+  pub answer-given : evaluated 𝓢 key rows columns sheet .answer ≡ given (countedFor 𝓢 key (lastValues 𝓢 key rows columns))
   answer-given = sym (done .0)
 
   -- the sheet holds every array's

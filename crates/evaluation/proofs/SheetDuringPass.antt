@@ -16,7 +16,7 @@ use Rattle.arrays.specs.WellFormed.{WellFormed}
 use Rattle.arrays.proofs.Parts.{value-by, values-same}
 use Rattle.arrays.proofs.PassValues.{value-now, values-prefix, array-value-same, value-valid}
 use Rattle.evaluation.specs.Evaluate.{ValuesOf}
-use Rattle.evaluation.specs.Inner.{ValuesBelow, sheetValues, Filled, nextValues, passedValues}
+use Rattle.evaluation.specs.Inner.{ValuesBelow, sheetValues, Filled, nextCounted, passedValues}
 use Rattle.evaluation.specs.Sheet.{wordsOf, placesOf, wordsBelow, laid}
 use Rattle.evaluation.proofs.WordsOfArray.{listed, words-places, below-made}
 use Rattle.evaluation.proofs.WordsOnSheet.{word-before, laid-is, laid-more, laid-length}
@@ -97,7 +97,7 @@ module _ (𝓢 : Scalars) (𝓛 : Lawful 𝓢) (arrays : List Array) (S S' : Sid
 
     -- what is worked out from the sheet is the next value
     next-passed : (n n' : ℕ) → WellFormed blocks blocks n n' arrays → i < length arrays →
-        nextValues 𝓢 arrays S S' sheet i ≡ passedValues 𝓢 arrays S S' i
+        nextCounted 𝓢 arrays S S' sheet i .values ≡ passedValues 𝓢 arrays S S' i
     next-passed n n' well l = values-same _ _ one
       where
         earlier : (part : Part) (j : ℕ) → j < i → valueOf part (sheetValues 𝓢 sheet j) ≡ valueAt (𝓢 .arithmetic) (below part i) j
@@ -118,7 +118,7 @@ module _ (𝓢 : Scalars) (𝓛 : Lawful 𝓢) (arrays : List Array) (S S' : Sid
             ∙ sym (value-now (𝓢 .arithmetic) (𝓢 .embed) (valueOf part) S S' arrays i (length arrays) l)
 
     pub passing-turn : (n n' : ℕ) → WellFormed blocks blocks n n' arrays → i < length arrays → (values : ValuesOf 𝓢)
-        (after : List ℕ) → values ≡ nextValues 𝓢 arrays S S' sheet i →
+        (after : List ℕ) → values ≡ nextCounted 𝓢 arrays S S' sheet i .values →
         after ≡ sets sheet (placesOf 𝓢 * i) (wordsOf 𝓢 values) → Passing lent (i + 1) after
     passing-turn n n' well l values after e stored =
         let one : suc i ≡ i + 1 = omega arith in

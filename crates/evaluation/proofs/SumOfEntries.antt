@@ -8,6 +8,7 @@ use Rattle.records.specs.Inner.{callSize}
 use Rattle.records.specs.Take.{takenOutcome, takenAt}
 use Rattle.records.specs.declared.Taken.{Taken}
 use Rattle.arrays.specs.Arrays.{Part, A, B, C, valueOf, Cell, Call, Entries, cells, calls, Array, arrayAt}
+use Rattle.arrays.specs.Factors.{callFactors, entriesFactors, sumOf}
 use Rattle.arrays.specs.Pass.{entriesTerms}
 use Rattle.arrays.specs.Placing.{blocks}
 use Rattle.arrays.specs.Side.{Side}
@@ -19,8 +20,8 @@ use Rattle.key.specs.Indexed.{Sparse, Recursive}
 use Rattle.key.specs.KeyArrays.{keyArrays, keyScaled}
 use Rattle.key.proofs.Encodings.{call-length}
 use Rattle.evaluation.specs.Embedded.{sameValuesIn}
-use Rattle.evaluation.specs.Evaluate.{ValuesOf}
-use Rattle.evaluation.specs.Inner.{sheetValues, addedTo, nextValues}
+use Rattle.evaluation.specs.Evaluate.{ValuesOf, Counted}
+use Rattle.evaluation.specs.Inner.{sheetValues, addedTo, cellAdded, callAdded, nextCounted}
 
 module _ (𝓢 : Scalars) (key : List ℕ) (S S' : Side (𝓢 .arithmetic)) (sheet : List ℕ) (i to : ℕ) where
   abbrev Element : Type 0
@@ -32,9 +33,9 @@ module _ (𝓢 : Scalars) (key : List ℕ) (S S' : Side (𝓢 .arithmetic)) (she
   abbrev mul : Element → Element → Element
   mul = 𝓢 .arithmetic .mul
 
-  part-added : (sum values : ValuesOf 𝓢) (weight : Element) (part : Part) →
-      valueOf part (addedTo 𝓢 sum values weight) ≡ add (valueOf part sum) (mul (valueOf part values) weight)
-  part-added sum values weight = value-by (λ part. add (valueOf part sum) (mul (valueOf part values) weight))
+  part-added : (sum : Counted 𝓢) (values : ValuesOf 𝓢) (weight : Element) (factors : ℕ) (part : Part) →
+      valueOf part (addedTo 𝓢 sum values weight factors .values) ≡ add (valueOf part (sum .values)) (mul (valueOf part values) weight)
+  part-added sum values weight factors = value-by (λ part. add (valueOf part (sum .values)) (mul (valueOf part values) weight))
 
   abbrev own : Array
   own = arrayAt (keyArrays key) i
@@ -45,37 +46,46 @@ module _ (𝓢 : Scalars) (key : List ℕ) (S S' : Side (𝓢 .arithmetic)) (she
       entriesTerms (𝓢 .arithmetic) (𝓢 .embed) (valueOf part) S S' (own .row-bits) (own .column-bits)
       (keyArrays key) (λ j. valueOf part (sheetValues 𝓢 sheet j)) entries
 
-  -- the value of a part that the entries from `todo` on lead to
-  abbrev pub Becomes : ValuesOf 𝓢 → Entries → Type 0
-  Becomes sum todo =
-      (part : Part) →
-      foldl add (valueOf part sum) (terms part todo) ≡ valueOf part (nextValues 𝓢 (keyArrays key) S S' sheet i)
+  -- how many factors entries have
+  abbrev count : Entries → ℕ
+  count entries = sumOf (entriesFactors (keyArrays key) (own .row-bits) (own .column-bits) entries)
+
+  -- what a sum becomes by the entries from `todo` on: the values and the factors of array i
+  pub record Becomes (sum : Counted 𝓢) (todo : Entries) : Type 0 where
+    pub values : (part : Part) →
+        foldl add (valueOf part (sum .values)) (terms part todo)
+        ≡ valueOf part (nextCounted 𝓢 (keyArrays key) S S' sheet i .values)
+    pub factors : sum .factors + count todo ≡ nextCounted 𝓢 (keyArrays key) S S' sheet i .factors
 
   -- entries of this array
   abbrev Fit : Entries → Type 0
   Fit todo = EntriesFit blocks blocks (keyArrays key) i (own .row-bits) (own .column-bits) todo
 
   -- at an offset, where some entries of array i are left and the sum of those before them is `sum`
-  pub record Adding (todo : Entries) (sum : ValuesOf 𝓢) (at : ℕ) : Type 0 where
+  pub record Adding (todo : Entries) (sum : Counted 𝓢) (at : ℕ) : Type 0 where
     pub runs : Runs key at (entryRecords (keyScaled key) todo) to
     pub fit : Fit todo
     pub written : EntriesIn (keyScaled key) todo
     pub becomes : Becomes sum todo
 
   -- the same where they are cells, and where they are calls
-  pub record CellsLeft (sum : ValuesOf 𝓢) (at : ℕ) : Type 0 where
+  pub record CellsLeft (sum : Counted 𝓢) (at : ℕ) : Type 0 where
     pub todo : List Cell
     pub left : Adding (cells todo) sum at
 
-  pub record CallsLeft (sum : ValuesOf 𝓢) (at : ℕ) : Type 0 where
+  pub record CallsLeft (sum : Counted 𝓢) (at : ℕ) : Type 0 where
     pub todo : List Call
     pub left : Adding (calls todo) sum at
 
   -- before the first entry
   module _ (at : ℕ) (runs : Runs key at (entryRecords (keyScaled key) (own .entries)) to) (fit : Fit (own .entries))
       (written : EntriesIn (keyScaled key) (own .entries)) where
-    abbrev zeros : ValuesOf 𝓢
-    zeros = record { a = 𝓢 .arithmetic .nought; b = 𝓢 .arithmetic .nought; c = 𝓢 .arithmetic .nought }
+    abbrev zeros : Counted 𝓢
+    zeros =
+        record {
+          values = record { a = 𝓢 .arithmetic .nought; b = 𝓢 .arithmetic .nought; c = 𝓢 .arithmetic .nought };
+          factors = 0;
+        }
 
     begun : Adding (own .entries) zeros at
     begun =
@@ -83,11 +93,15 @@ module _ (𝓢 : Scalars) (key : List ℕ) (S S' : Side (𝓢 .arithmetic)) (she
           runs = runs;
           fit = fit;
           written = written;
-          becomes = λ part. nought part ∙ sym (value-by (λ part. foldl add (𝓢 .arithmetic .nought) (terms part (own .entries))) part);
+          becomes = record {
+            values = λ part. nought part ∙ sym (value-by (λ part. foldl add (𝓢 .arithmetic .nought) (terms part (own .entries))) part);
+            factors = omega arith;
+          };
         }
       where
         nought : (part : Part) →
-            foldl add (valueOf part zeros) (terms part (own .entries)) ≡ foldl add (𝓢 .arithmetic .nought) (terms part (own .entries))
+            foldl add (valueOf part (zeros .values)) (terms part (own .entries))
+            ≡ foldl add (𝓢 .arithmetic .nought) (terms part (own .entries))
         nought A = refl
         nought B = refl
         nought C = refl
@@ -107,30 +121,31 @@ module _ (𝓢 : Scalars) (key : List ℕ) (S S' : Side (𝓢 .arithmetic)) (she
         go (calls list) recursive adding = record { todo = list; left = adding }
 
   -- what the weights of a cell and of a call are
-  abbrev pub cellWeight : Cell → Element
+  abbrev cellWeight : Cell → Element
   cellWeight c = mul (S .weigh (own .row-bits) (c .row)) (S' .weigh (own .column-bits) (c .column))
 
-  abbrev pub callWeight : Call → Element
+  abbrev callWeight : Call → Element
   callWeight c =
       mul (𝓢 .embed (c .factor))
       (mul (S .factor (own .row-bits) (arrayAt (keyArrays key) (c .id) .row-bits) (c .down))
       (S' .factor (own .column-bits) (arrayAt (keyArrays key) (c .id) .column-bits) (c .right)))
 
   -- the next cell, and the next call
-  pub record CellNext (sum : ValuesOf 𝓢) (at : ℕ) : Type 0 where
+  pub record CellNext (sum : Counted 𝓢) (at : ℕ) : Type 0 where
     pub c : Cell
     pub taken : takenAt key at ≡ takenOutcome (Taken.Record (cellRecord c) (at + 21))
     pub fits : CellFits (own .row-bits) (own .column-bits) c
-    pub onward : CellsLeft (addedTo 𝓢 sum (sameValuesIn 𝓢 (c .values)) (cellWeight c)) (at + 21)
+    pub onward : CellsLeft (cellAdded 𝓢 S S' (own .row-bits) (own .column-bits) sum c) (at + 21)
 
-  pub record CallNext (sum : ValuesOf 𝓢) (at : ℕ) : Type 0 where
+  pub record CallNext (sum : Counted 𝓢) (at : ℕ) : Type 0 where
     pub c : Call
     pub taken : takenAt key at ≡ takenOutcome (Taken.Record (callRecord (keyScaled key) c) (at + callSize (keyScaled key)))
     pub fits : CallFits blocks blocks (keyArrays key) i (own .row-bits) (own .column-bits) c
     pub written : FactorIn (keyScaled key) (c .factor)
-    pub onward : CallsLeft (addedTo 𝓢 sum (sheetValues 𝓢 sheet (c .id)) (callWeight c)) (at + callSize (keyScaled key))
+    pub onward :
+        CallsLeft (callAdded 𝓢 (keyArrays key) S S' sheet (own .row-bits) (own .column-bits) sum c) (at + callSize (keyScaled key))
 
-  pub cell-next : (sum : ValuesOf 𝓢) (at : ℕ) → at < to → CellsLeft sum at → CellNext sum at
+  pub cell-next : (sum : Counted 𝓢) (at : ℕ) → at < to → CellsLeft sum at → CellNext sum at
   unfolding entriesTerms
   cell-next sum at l here = go (here .todo) (here .left)
     where
@@ -147,17 +162,20 @@ module _ (𝓢 : Scalars) (key : List ℕ) (S S' : Side (𝓢 .arithmetic)) (she
                 runs = adding .runs .1;
                 fit = adding .fit .1;
                 written = tt;
-                becomes = λ part.
-                    ap (λ (x : Element). foldl add x (terms part (cells list)))
-                    (part-added sum (sameValuesIn 𝓢 (c .values)) (cellWeight c) part
-                    ∙ ap (λ (x : Element). add (valueOf part sum) (mul x (cellWeight c)))
-                    (value-by (λ part. 𝓢 .embed (valueOf part (c .values))) part))
-                    ∙ adding .becomes part;
+                becomes = record {
+                  values = λ part.
+                      ap (λ (x : Element). foldl add x (terms part (cells list)))
+                      (part-added sum (sameValuesIn 𝓢 (c .values)) (cellWeight c) (own .row-bits + own .column-bits) part
+                      ∙ ap (λ (x : Element). add (valueOf part (sum .values)) (mul x (cellWeight c)))
+                      (value-by (λ part. 𝓢 .embed (valueOf part (c .values))) part))
+                      ∙ adding .becomes .values part;
+                  factors = omega (arith, adding .becomes .factors);
+                };
               };
             };
           }
 
-  pub call-next : (sum : ValuesOf 𝓢) (at : ℕ) → at < to → CallsLeft sum at → CallNext sum at
+  pub call-next : (sum : Counted 𝓢) (at : ℕ) → at < to → CallsLeft sum at → CallNext sum at
   unfolding entriesTerms
   call-next sum at l here = go (here .todo) (here .left)
     where
@@ -179,10 +197,14 @@ module _ (𝓢 : Scalars) (key : List ℕ) (S S' : Side (𝓢 .arithmetic)) (she
                     (adding .runs .1);
                 fit = adding .fit .1;
                 written = adding .written .1;
-                becomes = λ part.
-                    ap (λ (x : Element). foldl add x (terms part (calls list)))
-                    (part-added sum (sheetValues 𝓢 sheet (c .id)) (callWeight c) part)
-                    ∙ adding .becomes part;
+                becomes = record {
+                  values = λ part.
+                      ap (λ (x : Element). foldl add x (terms part (calls list)))
+                      (part-added sum (sheetValues 𝓢 sheet (c .id)) (callWeight c)
+                      (callFactors (own .row-bits) (own .column-bits) (arrayAt (keyArrays key) (c .id))) part)
+                      ∙ adding .becomes .values part;
+                  factors = omega (arith, adding .becomes .factors);
+                };
               };
             };
           }

@@ -44,6 +44,8 @@ pub mod RecordsOfAcceptedKey
 pub mod Acceptance
 -- A key has no more records than bytes and one, and so an accepted key has at most 65,537 cells and at most 65,537 calls.
 pub mod CountBounds
+-- The factors of an accepted key are at most (n + n')·(cells + calls) (02, E4), and so 64 bits have room for them.
+pub mod FactorLimits
 -- The table of offsets, which fills from its first place on.
 pub mod OffsetTable
 -- Where an opening is taken, its shape stands in the two bytes behind its kind.

@@ -2,6 +2,7 @@ pub mod Reading
 pub mod Before
 pub mod Check
 pub mod KeyArrays
+pub mod Factors
 pub mod Encoding
 pub mod Index
 pub mod Accepted

@@ -1,4 +1,5 @@
 -- What a reply tells: no other answer has it, and `same` is 1 exactly where compare's answer is "same".
+use Prim.Native.Nat.{ℕ}
 use mathlib.Core.Path.{_≡_, refl, sym, ap, ap₂}
 use native.Mathlib.Omega.{arith}
 use lib.Dec.{eqb}
@@ -14,7 +15,7 @@ use Rattle.evaluate.specs.declared.Evaluated.{Evaluated}
 use Rattle.evaluate.proofs.Answers.{evaluated-injective}
 use Rattle.comparison.specs.AgreementBound.{isSame}
 use Rattle.comparison.specs.Compare.{Answer, same, different, refusedFor}
-use Rattle.compare.specs.Answer.{comparedAnswer}
+use Rattle.compare.specs.Answer.{comparedAnswer, comparedFactors}
 use Rattle.compare.specs.declared.Compared.{Compared}
 use Rattle.evaluate_quadratic.specs.Answer.{evaluatedOutcome as quadraticOutcome}
 use Rattle.evaluate_quadratic.specs.declared.Evaluated.{Evaluated as Quadratic}
@@ -53,35 +54,41 @@ check-told (Checked.Refused f) (Checked.Refused g) e =
     ap Checked.Refused (refusal-told f g (ap (λ (x : CheckReply). x .number) e) (ap (λ (x : CheckReply). x .place) e))
 
 pub evaluate-told : (r s : Evaluated) → evaluateReply (evaluatedOutcome r) ≡ evaluateReply (evaluatedOutcome s) → r ≡ s
-evaluate-told (Evaluated.Values v) (Evaluated.Values w) e =
-    evaluated-injective (Evaluated.Values v) (Evaluated.Values w)
+evaluate-told (Evaluated.Values v m) (Evaluated.Values w n) e =
+    evaluated-injective (Evaluated.Values v m) (Evaluated.Values w n)
     (λ i.
     given
     (record {
-      a = ap (λ (x : EvaluateReply). x .a) e i;
-      b = ap (λ (x : EvaluateReply). x .b) e i;
-      c = ap (λ (x : EvaluateReply). x .c) e i;
+      values = record {
+        a = ap (λ (x : EvaluateReply). x .a) e i;
+        b = ap (λ (x : EvaluateReply). x .b) e i;
+        c = ap (λ (x : EvaluateReply). x .c) e i;
+      };
+      factors = ap (λ (x : EvaluateReply). x .factors) e i;
     }))
-evaluate-told (Evaluated.Values v) (Evaluated.Refused g) e =
+evaluate-told (Evaluated.Values v m) (Evaluated.Refused g) e =
     absurd (number-some (g .reason) (sym (ap (λ (x : EvaluateReply). x .number) e)))
-evaluate-told (Evaluated.Refused f) (Evaluated.Values w) e =
+evaluate-told (Evaluated.Refused f) (Evaluated.Values w n) e =
     absurd (number-some (f .reason) (ap (λ (x : EvaluateReply). x .number) e))
 evaluate-told (Evaluated.Refused f) (Evaluated.Refused g) e =
     ap Evaluated.Refused (refusal-told f g (ap (λ (x : EvaluateReply). x .number) e) (ap (λ (x : EvaluateReply). x .place) e))
 
 pub quadratic-told : (r s : Quadratic) → quadraticReply (quadraticOutcome r) ≡ quadraticReply (quadraticOutcome s) → r ≡ s
-quadratic-told (Quadratic.Values v) (Quadratic.Values w) e =
-    quadratic-injective (Quadratic.Values v) (Quadratic.Values w)
+quadratic-told (Quadratic.Values v m) (Quadratic.Values w n) e =
+    quadratic-injective (Quadratic.Values v m) (Quadratic.Values w n)
     (λ i.
     given
     (record {
-      a = record { u = ap (λ (x : QuadraticReply). x .«a_u») e i; v = ap (λ (x : QuadraticReply). x .«a_v») e i };
-      b = record { u = ap (λ (x : QuadraticReply). x .«b_u») e i; v = ap (λ (x : QuadraticReply). x .«b_v») e i };
-      c = record { u = ap (λ (x : QuadraticReply). x .«c_u») e i; v = ap (λ (x : QuadraticReply). x .«c_v») e i };
+      values = record {
+        a = record { u = ap (λ (x : QuadraticReply). x .«a_u») e i; v = ap (λ (x : QuadraticReply). x .«a_v») e i };
+        b = record { u = ap (λ (x : QuadraticReply). x .«b_u») e i; v = ap (λ (x : QuadraticReply). x .«b_v») e i };
+        c = record { u = ap (λ (x : QuadraticReply). x .«c_u») e i; v = ap (λ (x : QuadraticReply). x .«c_v») e i };
+      };
+      factors = ap (λ (x : QuadraticReply). x .factors) e i;
     }))
-quadratic-told (Quadratic.Values v) (Quadratic.Refused g) e =
+quadratic-told (Quadratic.Values v m) (Quadratic.Refused g) e =
     absurd (number-some (g .reason) (sym (ap (λ (x : QuadraticReply). x .number) e)))
-quadratic-told (Quadratic.Refused f) (Quadratic.Values w) e =
+quadratic-told (Quadratic.Refused f) (Quadratic.Values w n) e =
     absurd (number-some (f .reason) (ap (λ (x : QuadraticReply). x .number) e))
 quadratic-told (Quadratic.Refused f) (Quadratic.Refused g) e =
     ap Quadratic.Refused (refusal-told f g (ap (λ (x : QuadraticReply). x .number) e) (ap (λ (x : QuadraticReply). x .place) e))
@@ -106,23 +113,24 @@ which-told Which.Neither Which.First e = absurd (omega (arith, e))
 which-told Which.Neither Which.Second e = absurd (omega (arith, e))
 which-told Which.Neither Which.Neither e = refl
 
-pub compare-told : (r s : Compared) → compareReply (comparedAnswer r) ≡ compareReply (comparedAnswer s) → r ≡ s
-compare-told Compared.Same Compared.Same e = refl
-compare-told Compared.Same Compared.Different e = absurd (omega (arith, ap (λ (x : CompareReply). x .same) e))
-compare-told Compared.Same (Compared.Refused w g) e = absurd (omega (arith, ap (λ (x : CompareReply). x .same) e))
-compare-told Compared.Different Compared.Same e = absurd (omega (arith, ap (λ (x : CompareReply). x .same) e))
-compare-told Compared.Different Compared.Different e = refl
-compare-told Compared.Different (Compared.Refused w g) e =
+pub compare-told : (r s : Compared) →
+    compareReply (comparedAnswer r) (comparedFactors r) ≡ compareReply (comparedAnswer s) (comparedFactors s) → r ≡ s
+compare-told (Compared.Same m) (Compared.Same n) e = ap Compared.Same (ap (λ (x : CompareReply). x .factors) e)
+compare-told (Compared.Same m) (Compared.Different n) e = absurd (omega (arith, ap (λ (x : CompareReply). x .same) e))
+compare-told (Compared.Same m) (Compared.Refused w g) e = absurd (omega (arith, ap (λ (x : CompareReply). x .same) e))
+compare-told (Compared.Different m) (Compared.Same n) e = absurd (omega (arith, ap (λ (x : CompareReply). x .same) e))
+compare-told (Compared.Different m) (Compared.Different n) e = ap Compared.Different (ap (λ (x : CompareReply). x .factors) e)
+compare-told (Compared.Different m) (Compared.Refused w g) e =
     absurd (number-some (g .reason) (sym (ap (λ (x : CompareReply). x .number) e)))
-compare-told (Compared.Refused v f) Compared.Same e = absurd (omega (arith, ap (λ (x : CompareReply). x .same) e))
-compare-told (Compared.Refused v f) Compared.Different e =
+compare-told (Compared.Refused v f) (Compared.Same n) e = absurd (omega (arith, ap (λ (x : CompareReply). x .same) e))
+compare-told (Compared.Refused v f) (Compared.Different n) e =
     absurd (number-some (f .reason) (ap (λ (x : CompareReply). x .number) e))
 compare-told (Compared.Refused v f) (Compared.Refused w g) e =
     ap₂ Compared.Refused (which-told v w (ap (λ (x : CompareReply). x .key) e))
     (refusal-told f g (ap (λ (x : CompareReply). x .number) e) (ap (λ (x : CompareReply). x .place) e))
 
-pub same-told : (answer : Answer) → eqb (compareReply answer .same) 1 ≡ isSame answer
+pub same-told : (answer : Answer) (factors : ℕ) → eqb (compareReply answer factors .same) 1 ≡ isSame answer
 unfolding isSame
-same-told same = refl
-same-told different = refl
-same-told (refusedFor which number place) = refl
+same-told same factors = refl
+same-told different factors = refl
+same-told (refusedFor which number place) factors = refl

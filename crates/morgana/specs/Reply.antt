@@ -3,10 +3,10 @@
 use Prim.Native.Nat.{ℕ}
 use Rattle.refusal.specs.Outcome.{Outcome, given, refused}
 use Rattle.refusal.specs.declared.Which.{Which}
+use Rattle.field.specs.Scalars.{prime}
 use Rattle.quadratic.specs.Quadratic.{quadratic}
-use Rattle.arrays.specs.Arrays.{Values}
 use Rattle.key.specs.declared.Counts.{Counts}
-use Rattle.evaluation.specs.Evaluate.{ValuesOf}
+use Rattle.evaluation.specs.Evaluate.{Counted}
 use Rattle.comparison.specs.Compare.{Answer, same, different, refusedFor}
 use Rattle.morgana.specs.declared.CheckReply.{CheckReply}
 use Rattle.morgana.specs.declared.CompareReply.{CompareReply}
@@ -29,26 +29,35 @@ checkReply (given counts) =
 checkReply (refused number place) =
     record { number = number; place = place; arrays = 0; cells = 0; calls = 0; rows = 0; columns = 0 }
 
--- evaluate's reply, and cell's: the last array's values
-abbrev pub evaluateReply : Outcome Values → EvaluateReply
-evaluateReply (given values) = record { number = 0; place = 0; a = values .a; b = values .b; c = values .c }
-evaluateReply (refused number place) = record { number = number; place = place; a = 0; b = 0; c = 0 }
-
--- evaluate's reply over the field of p²: u and v of each
-abbrev pub quadraticReply : Outcome (ValuesOf quadratic) → QuadraticReply
-quadraticReply (given values) =
+-- evaluate's reply, and cell's: the last array's values, and the factors
+abbrev pub evaluateReply : Outcome (Counted prime) → EvaluateReply
+evaluateReply (given counted) =
     record {
       number = 0;
       place = 0;
-      «a_u» = values .a .u;
-      «a_v» = values .a .v;
-      «b_u» = values .b .u;
-      «b_v» = values .b .v;
-      «c_u» = values .c .u;
-      «c_v» = values .c .v;
+      a = counted .values .a;
+      b = counted .values .b;
+      c = counted .values .c;
+      factors = counted .factors;
+    }
+evaluateReply (refused number place) = record { number = number; place = place; a = 0; b = 0; c = 0; factors = 0 }
+
+-- evaluate's reply over the field of p²: u and v of each, and the factors
+abbrev pub quadraticReply : Outcome (Counted quadratic) → QuadraticReply
+quadraticReply (given counted) =
+    record {
+      number = 0;
+      place = 0;
+      «a_u» = counted .values .a .u;
+      «a_v» = counted .values .a .v;
+      «b_u» = counted .values .b .u;
+      «b_v» = counted .values .b .v;
+      «c_u» = counted .values .c .u;
+      «c_v» = counted .values .c .v;
+      factors = counted .factors;
     }
 quadraticReply (refused number place) =
-    record { number = number; place = place; «a_u» = 0; «a_v» = 0; «b_u» = 0; «b_v» = 0; «c_u» = 0; «c_v» = 0 }
+    record { number = number; place = place; «a_u» = 0; «a_v» = 0; «b_u» = 0; «b_v» = 0; «c_u» = 0; «c_v» = 0; factors = 0 }
 
 -- the key that a refused comparison names
 abbrev pub keyNumber : Which → ℕ
@@ -56,12 +65,13 @@ keyNumber Which.First = 1
 keyNumber Which.Second = 2
 keyNumber Which.Neither = 0
 
--- compare's reply: `same` is 1 exactly where the answer is "same" (`same-told` in proofs/Replies.antt)
-abbrev pub compareReply : Answer → CompareReply
-compareReply same = record { number = 0; place = 0; key = 0; same = 1 }
-compareReply different = record { number = 0; place = 0; key = 0; same = 0 }
-compareReply (refusedFor which number place) =
-    record { number = number; place = place; key = keyNumber which; same = 0 }
+-- compare's reply, where so many factors were taken: `same` is 1 exactly where the answer is "same" (`same-told` in
+-- proofs/Replies.antt)
+abbrev pub compareReply : Answer → ℕ → CompareReply
+compareReply same factors = record { number = 0; place = 0; key = 0; same = 1; factors = factors }
+compareReply different factors = record { number = 0; place = 0; key = 0; same = 0; factors = factors }
+compareReply (refusedFor which number place) factors =
+    record { number = number; place = place; key = keyNumber which; same = 0; factors = 0 }
 
 -- move's reply: the copy's length
 abbrev pub moveReply : Outcome ℕ → MoveReply

@@ -1,5 +1,5 @@
-// The C interface (01, 'The keysheet program and the host'; 02, E2 and E9): check, evaluate, cell and compare over byte slices and slices
-// of 32-bit numbers, evaluate and compare over either field, and the move of a key into the other edition. A reply is a struct of
+// The C interface (01, 'The keysheet program and the host'; 02, E2, E9 and E4): check, evaluate, cell and compare over byte slices and
+// slices of 32-bit numbers, evaluate and compare over either field, and the move of a key into the other edition. A reply is a struct of
 // numbers: where nothing is refused its number and place are 0, and where something is, every other field is 0, but for the key that a
 // refused comparison names.
 mod reply;
@@ -9,10 +9,11 @@ ghost use mathlib.Core.Path.{_≡_};
 ghost use Rattle.field.specs.Scalars.{prime};
 ghost use Rattle.quadratic.specs.Quadratic.{quadratic};
 ghost use Rattle.key.specs.Check.{checkedKey};
+ghost use Rattle.key.specs.Factors.{FactorsLimited};
 ghost use Rattle.evaluation.specs.Cell.{celled};
 ghost use Rattle.evaluation.specs.Evaluate.{evaluated};
 ghost use Rattle.comparison.specs.AgreementBound.{Agreement};
-ghost use Rattle.comparison.specs.Compare.{compared};
+ghost use Rattle.comparison.specs.Compare.{compared, BothLimited};
 ghost use Rattle.editions.specs.Move.{moving};
 ghost use Rattle.editions.specs.OtherEdition.{Moves};
 ghost use Rattle.morgana.specs.Reply.{checkReply, evaluateReply, quadraticReply, compareReply, moveReply};
@@ -30,7 +31,7 @@ pub struct CheckReply {
     pub columns: u32,
 }
 
-// The reply to evaluate and to cell: the last array's values.
+// The reply to evaluate and to cell: the last array's values, and how many factors were taken for all arrays.
 #[repr(C)]
 pub struct EvaluateReply {
     pub number: u32,
@@ -38,9 +39,10 @@ pub struct EvaluateReply {
     pub a: u32,
     pub b: u32,
     pub c: u32,
+    pub factors: u64,
 }
 
-// The reply to evaluate over the field of p² elements: the last array's values, u and v of each.
+// The reply to evaluate over the field of p² elements: the last array's values, u and v of each, and the factors.
 #[repr(C)]
 pub struct QuadraticReply {
     pub number: u32,
@@ -51,15 +53,18 @@ pub struct QuadraticReply {
     pub b_v: u32,
     pub c_u: u32,
     pub c_v: u32,
+    pub factors: u64,
 }
 
-// The reply to compare, over either field: the key that a refusal is about, 1 the first, 2 the second, 0 neither; and 1 for "same".
+// The reply to compare, over either field: the key that a refusal is about, 1 the first, 2 the second, 0 neither; 1 for "same"; and how
+// many factors were taken for both keys.
 #[repr(C)]
 pub struct CompareReply {
     pub number: u32,
     pub place: u64,
     pub key: u32,
     pub same: u32,
+    pub factors: u64,
 }
 
 // The reply to move: the copy's length.
@@ -75,7 +80,7 @@ pub struct MoveReply {
 pub extern "C" fn morgana_version() -> u32
     ensures { λ r. ⌜ r ≡ version ⌝ }
 {
-    3000
+    4000
 }
 
 // Whether bytes are an accepted key: its counts, or the first fault with its place.
@@ -111,7 +116,7 @@ pub extern "C" fn morgana_check(key: &[u8]) -> CheckReply
 }
 
 // The last array's A, B and C at a point, and every array's on the sheet, those of array i from place 3i on; a refused call leaves
-// the sheet.
+// the sheet. By `limit` the factors that are answered are at most (n + n')·(cells + calls).
 #[no_mangle]
 pub extern "C" fn morgana_evaluate(
     key: &[u8],
@@ -125,6 +130,7 @@ pub extern "C" fn morgana_evaluate(
     ensures sheet { λ _. ⌜
         now (sheet .exit) ≡
         evaluated prime (now (key .entry)) (now (rows .entry)) (now (columns .entry)) (now (sheet .entry)) .sheet ⌝ }
+    ensures limit { λ _. ⌜ FactorsLimited (now (key .entry)) ⌝ }
 {
     reply::of_evaluated(evaluate::evaluate(key, rows, columns, sheet))
 }
@@ -140,6 +146,7 @@ pub extern "C" fn morgana_cell(
 ) -> EvaluateReply
     ensures reply { λ r. ⌜ r ≡ evaluateReply (celled (now (key .entry)) row column (now (sheet .entry)) .answer) ⌝ }
     ensures sheet { λ _. ⌜ now (sheet .exit) ≡ celled (now (key .entry)) row column (now (sheet .entry)) .sheet ⌝ }
+    ensures limit { λ _. ⌜ FactorsLimited (now (key .entry)) ⌝ }
 {
     reply::of_evaluated(evaluate::cell(key, row, column, sheet))
 }
@@ -157,12 +164,15 @@ pub extern "C" fn morgana_compare(
     ensures reply { λ r. ⌜
         r ≡
         compareReply
-        (compared prime (now (first .entry)) (now (second .entry)) (now (rows .entry)) (now (columns .entry)) (now (sheet .entry)) .answer) ⌝ }
+        (compared prime (now (first .entry)) (now (second .entry)) (now (rows .entry)) (now (columns .entry)) (now (sheet .entry)) .answer)
+        (compared prime (now (first .entry)) (now (second .entry)) (now (rows .entry)) (now (columns .entry)) (now (sheet .entry))
+        .factors) ⌝ }
     ensures sheet { λ _. ⌜
         now (sheet .exit) ≡
         compared prime (now (first .entry)) (now (second .entry)) (now (rows .entry)) (now (columns .entry)) (now (sheet .entry))
         .sheet ⌝ }
     ensures agreement { λ _. ⌜ Agreement prime (now (first .entry)) (now (second .entry)) ⌝ }
+    ensures limit { λ _. ⌜ BothLimited (now (first .entry)) (now (second .entry)) ⌝ }
 {
     reply::of_compared(compare::compare(first, second, rows, columns, sheet))
 }
@@ -183,6 +193,7 @@ pub extern "C" fn morgana_evaluate_quadratic(
     ensures sheet { λ _. ⌜
         now (sheet .exit) ≡
         evaluated quadratic (now (key .entry)) (now (rows .entry)) (now (columns .entry)) (now (sheet .entry)) .sheet ⌝ }
+    ensures limit { λ _. ⌜ FactorsLimited (now (key .entry)) ⌝ }
 {
     reply::of_quadratic(evaluate_quadratic::evaluate(key, rows, columns, sheet))
 }
@@ -201,12 +212,15 @@ pub extern "C" fn morgana_compare_quadratic(
     ensures reply { λ r. ⌜
         r ≡
         compareReply
-        (compared quadratic (now (first .entry)) (now (second .entry)) (now (rows .entry)) (now (columns .entry)) (now (sheet .entry)) .answer) ⌝ }
+        (compared quadratic (now (first .entry)) (now (second .entry)) (now (rows .entry)) (now (columns .entry)) (now (sheet .entry)) .answer)
+        (compared quadratic (now (first .entry)) (now (second .entry)) (now (rows .entry)) (now (columns .entry)) (now (sheet .entry))
+        .factors) ⌝ }
     ensures sheet { λ _. ⌜
         now (sheet .exit) ≡
         compared quadratic (now (first .entry)) (now (second .entry)) (now (rows .entry)) (now (columns .entry))
         (now (sheet .entry)) .sheet ⌝ }
     ensures agreement { λ _. ⌜ Agreement quadratic (now (first .entry)) (now (second .entry)) ⌝ }
+    ensures limit { λ _. ⌜ BothLimited (now (first .entry)) (now (second .entry)) ⌝ }
 {
     reply::of_compared(compare_quadratic::compare(first, second, rows, columns, sheet))
 }

@@ -11,7 +11,7 @@ use refusal::Which;
 ghost use mathlib.Core.Path.{_≡_};
 ghost use Rattle.refusal.specs.Number.{numberOf};
 ghost use Rattle.evaluate.specs.Answer.{evaluatedOutcome};
-ghost use Rattle.compare.specs.Answer.{comparedAnswer};
+ghost use Rattle.compare.specs.Answer.{comparedAnswer, comparedFactors};
 ghost use Rattle.evaluate_quadratic.specs.Answer.{evaluatedOutcome as evaluatedQuadratic};
 ghost use Rattle.editions.specs.Move.{copiedOutcome};
 ghost use Rattle.morgana.specs.Reply.{evaluateReply, quadraticReply, compareReply, keyNumber, moveReply};
@@ -21,12 +21,13 @@ pub(crate) fn of_evaluated(answer: Evaluated) -> EvaluateReply
     ensures { λ r. ⌜ r ≡ evaluateReply (evaluatedOutcome answer) ⌝ }
 {
     match answer {
-        Evaluated::Values(values) => EvaluateReply {
+        Evaluated::Values(values, factors) => EvaluateReply {
             number: 0,
             place: 0,
             a: values.a.value(),
             b: values.b.value(),
             c: values.c.value(),
+            factors: factors as u64,
         },
         Evaluated::Refused(refusal) => EvaluateReply {
             number: number(refusal),
@@ -34,6 +35,7 @@ pub(crate) fn of_evaluated(answer: Evaluated) -> EvaluateReply
             a: 0,
             b: 0,
             c: 0,
+            factors: 0,
         },
     }
 }
@@ -43,7 +45,7 @@ pub(crate) fn of_quadratic(answer: evaluate_quadratic::Evaluated) -> QuadraticRe
     ensures { λ r. ⌜ r ≡ quadraticReply (evaluatedQuadratic answer) ⌝ }
 {
     match answer {
-        evaluate_quadratic::Evaluated::Values(values) => QuadraticReply {
+        evaluate_quadratic::Evaluated::Values(values, factors) => QuadraticReply {
             number: 0,
             place: 0,
             a_u: values.a.u.value(),
@@ -52,6 +54,7 @@ pub(crate) fn of_quadratic(answer: evaluate_quadratic::Evaluated) -> QuadraticRe
             b_v: values.b.v.value(),
             c_u: values.c.u.value(),
             c_v: values.c.v.value(),
+            factors: factors as u64,
         },
         evaluate_quadratic::Evaluated::Refused(refusal) => QuadraticReply {
             number: number(refusal),
@@ -62,32 +65,36 @@ pub(crate) fn of_quadratic(answer: evaluate_quadratic::Evaluated) -> QuadraticRe
             b_v: 0,
             c_u: 0,
             c_v: 0,
+            factors: 0,
         },
     }
 }
 
 // The reply for an answer of compare, over either field.
 pub(crate) fn of_compared(answer: Compared) -> CompareReply
-    ensures { λ r. ⌜ r ≡ compareReply (comparedAnswer answer) ⌝ }
+    ensures { λ r. ⌜ r ≡ compareReply (comparedAnswer answer) (comparedFactors answer) ⌝ }
 {
     match answer {
-        Compared::Same => CompareReply {
+        Compared::Same(factors) => CompareReply {
             number: 0,
             place: 0,
             key: 0,
             same: 1,
+            factors: factors as u64,
         },
-        Compared::Different => CompareReply {
+        Compared::Different(factors) => CompareReply {
             number: 0,
             place: 0,
             key: 0,
             same: 0,
+            factors: factors as u64,
         },
         Compared::Refused(which, refusal) => CompareReply {
             number: number(refusal),
             place: refusal.place as u64,
             key: key_number(which),
             same: 0,
+            factors: 0,
         },
     }
 }

@@ -5,7 +5,7 @@ ghost use mathlib.Core.Path.{_≡_};
 ghost use Prim.Native.Nat.{_≤_};
 ghost use lib.ListN.{length};
 
-// Prints eq of the next two lists of so many numbers. Inner: they are at most 30.
+// Prints eq of the next two lists of so many numbers, and its count of factors. Inner: they are at most 30.
 pub(crate) fn eq(count: usize)
     requires { ⌜ count ≤ 30 ⌝ }
 {
@@ -20,10 +20,12 @@ fn of_lists(x: &mut [u32], y: &mut [u32])
 {
     input::fill(x);
     input::fill(y);
-    print::element(weights::eq(x, y));
+    let product = weights::eq(x, y);
+    print::element(product.value);
+    print::count(product.factors);
 }
 
-// Prints eq over p² of the next two lists of so many elements, of two numbers each. Inner: they are at most 30.
+// Prints eq over p² of the next two lists of so many elements, of two numbers each, and its count of factors. Inner: they are at most 30.
 pub(crate) fn eq_quadratic(count: usize)
     requires { ⌜ count ≤ 30 ⌝ }
 {
@@ -39,6 +41,7 @@ fn of_pairs(x: &mut [u32], y: &mut [u32])
     input::fill(x);
     input::fill(y);
     let product = weights_quadratic::eq(x, y);
-    print::element(product.u);
-    print::element(product.v);
+    print::element(product.value.u);
+    print::element(product.value.v);
+    print::count(product.factors);
 }

@@ -19,3 +19,9 @@ pub(crate) fn element(x: Fp) {
     io::write_all(1, b" ");
     io::print_decimal(1, x.value() as u64);
 }
+
+// A count of factors, behind a space.
+pub(crate) fn count(factors: usize) {
+    io::write_all(1, b" ");
+    io::print_decimal(1, factors as u64);
+}

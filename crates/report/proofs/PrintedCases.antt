@@ -10,14 +10,13 @@ use Rattle.refusal.specs.declared.Reason.{Reason}
 use Rattle.refusal.proofs.Outcomes.{given-injective, given-not-refused}
 use Rattle.field.specs.Scalars.{prime}
 use Rattle.field.proofs.PrimeLawful.{prime-lawful}
-use Rattle.arrays.specs.Arrays.{Values}
 use Rattle.key.specs.Check.{checkedKey}
 use Rattle.key.specs.KeyArrays.{keyArrays}
 use Rattle.key.specs.declared.Counts.{Counts}
 use Rattle.judge.specs.Judged.{pointJudged, sheetJudged}
 use Rattle.judge.proofs.JudgementsInOrder.{given-known}
 use Rattle.judge.proofs.NothingRefused.{PointOf, point-of, point-gives}
-use Rattle.evaluation.specs.Evaluate.{valuesAt, lastValues, concluded, evaluated}
+use Rattle.evaluation.specs.Evaluate.{valuesAt, lastValues, concluded, evaluated, Counted, countedFor}
 use Rattle.evaluation.specs.Inner.{sheetValues}
 use Rattle.evaluation.specs.Sheet.{placesOf}
 use Rattle.evaluation.proofs.EvaluatePromises.{at-most-1024}
@@ -39,10 +38,10 @@ module _ (key rows columns : List ℕ) where
       andThen (evaluated prime key rows columns blank .answer) (λ last. given (keyLines key rows columns counts)))) e
 
   module _ (counts : Counts) (accepted : checkedKey key ≡ given counts) where
-    abbrev lines : Outcome Values → Outcome (List ℕ)
+    abbrev lines : Outcome (Counted prime) → Outcome (List ℕ)
     lines answer = andThen answer (λ last. given (keyLines key rows columns counts))
 
-    answered : (answer : Outcome Values) → evaluated prime key rows columns blank .answer ≡ answer →
+    answered : (answer : Outcome (Counted prime)) → evaluated prime key rows columns blank .answer ≡ answer →
         evaluatedLines key rows columns ≡ lines answer
     answered answer e =
         ap (λ (o : Outcome Counts).
@@ -55,9 +54,10 @@ module _ (key rows columns : List ℕ) where
     evaluate-refused number place e = answered (refused number place) e
 
     -- where evaluate answers, the point is one for the key
-    point-judged : (o : Outcome Counts) (sheet : List ℕ) (last : Values) →
+    point-judged : (o : Outcome Counts) (sheet : List ℕ) (last : Counted prime) →
         andThen (andThen (checkedKey key) (pointJudged 1 rows columns)) (sheetJudged (placesOf prime) (length sheet)) ≡ o →
-        concluded prime o (λ c. lastValues prime key rows columns) (λ c. valuesAt prime (keyArrays key) rows columns) sheet .answer ≡ given last →
+        concluded prime o (λ c. countedFor prime key (lastValues prime key rows columns)) (λ c. valuesAt prime (keyArrays key) rows columns)
+        sheet .answer ≡ given last →
         pointJudged 1 rows columns counts ≡ given counts
     unfolding concluded
     point-judged (refused number place) sheet last e f = absurd (given-not-refused (sym f))
@@ -69,7 +69,7 @@ module _ (key rows columns : List ℕ) where
         rw (sym same) (point-of 1 rows columns c (known .1))
 
     -- and the sheet holds every array's values
-    sheet-lines : (last : Values) → evaluated prime key rows columns blank .answer ≡ given last →
+    sheet-lines : (last : Counted prime) → evaluated prime key rows columns blank .answer ≡ given last →
         arrayLines (sheetValues prime (evaluated prime key rows columns blank .sheet)) (counts .arrays)
         ≡ arrayLines (valuesAt prime (keyArrays key) rows columns) (counts .arrays)
     sheet-lines last e =
@@ -86,14 +86,15 @@ module _ (key rows columns : List ℕ) where
         })
 
     -- what was answered, and what it left on the sheet
-    pub evaluate-given : (answer : Evaluated) (last : Answered) (after : List ℕ) →
+    pub evaluate-given : (answer : Evaluated) (last : Answered) (factors : ℕ) (after : List ℕ) →
         evaluatedOutcome answer ≡ evaluated prime key rows columns blank .answer → after ≡ evaluated prime key rows columns blank .sheet →
-        answer ≡ Evaluated.Values last →
+        answer ≡ Evaluated.Values last factors →
         evaluatedLines key rows columns ≡ given (keyLine (length key) counts ++ arrayLines (sheetValues prime after) (counts .arrays))
-    evaluate-given answer last after said left is =
-        let e : evaluated prime key rows columns blank .answer ≡ given (valuesIn last) = sym said ∙ ap evaluatedOutcome is in
-        answered (given (valuesIn last)) e
-        ∙ ap (λ (text : List ℕ). given (keyLine (length key) counts ++ text)) (sym (sheet-lines (valuesIn last) e))
+    evaluate-given answer last factors after said left is =
+        let counted : Counted prime = record { values = valuesIn last; factors = factors } in
+        let e : evaluated prime key rows columns blank .answer ≡ given counted = sym said ∙ ap evaluatedOutcome is in
+        answered (given counted) e
+        ∙ ap (λ (text : List ℕ). given (keyLine (length key) counts ++ text)) (sym (sheet-lines counted e))
         ∙ ap (λ (sheet : List ℕ). given (keyLine (length key) counts ++ arrayLines (sheetValues prime sheet) (counts .arrays))) (sym left)
 
 -- ---- the input

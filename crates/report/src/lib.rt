@@ -81,7 +81,7 @@ fn evaluated(text: &mut [u8], key: &[u8], rows: &[u32], columns: &[u32]) -> usiz
     let mut sheet = [0u32; 3072];
     match evaluate::evaluate(key, rows, columns, &mut sheet) {
         Evaluated::Refused(refusal) => return lines::refusal(text, refusal),
-        Evaluated::Values(_) => (),
+        Evaluated::Values(_, _) => (),
     }
     let at = lines::key(text, key.len(), counts);
     lines::arrays(text, at, &sheet, counts.arrays)

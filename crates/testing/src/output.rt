@@ -16,20 +16,28 @@ fn pass(space: &mut [u8]) {
     io::write_all(1, &space[..got]);
 }
 
-// Whether two keys are the same, or the refusal with the key that it is about.
+// Whether two keys are the same, with the factors of both, or the refusal with the key that it is about.
 pub fn compared(got: Compared) {
     match got {
-        Compared::Same => {
+        Compared::Same(taken) => {
             io::write_all(1, b"same");
+            factors(taken);
         }
-        Compared::Different => {
+        Compared::Different(taken) => {
             io::write_all(1, b"different");
+            factors(taken);
         }
         Compared::Refused(key, r) => {
             which(key);
             refusal(r);
         }
     }
+}
+
+// How many factors were taken.
+pub fn factors(taken: usize) {
+    io::write_all(1, b" factors ");
+    number(taken as u64);
 }
 
 // Which key a refusal is about.

@@ -1,7 +1,7 @@
 -- How far weights over the bits of a side may be taken: over these bits alone, and where they are all, to the end of the last limb.
-use Prim.Native.Nat.{ℕ, _+_, _-_, _≤_, _<_}
+use Prim.Native.Nat.{ℕ, _+_, _-_, _^_, _≤_, _<_}
 use mathlib.Core.List.{List}
-use mathlib.Core.Path.{_≡_, refl, ap, _∙_}
+use mathlib.Core.Path.{_≡_, refl, sym, ap, subst, _∙_}
 use native.Mathlib.Omega.{arith}
 use lib.ListN.{length}
 use Rattle.multilinear.specs.Eq.{bitwise}
@@ -26,3 +26,9 @@ reaches-end 𝓦 𝓛 most bits table all-bits long side =
           ∙ bitwise-beyond (𝓦 .scalars .arithmetic) (𝓛 .lawful .field .ring) (pairs 𝓦 table) (most - from) (filled most - most) from a n
           (λ i u v. side .beyond long i (omega arith) (omega arith));
     })
+
+-- a number's weight over the first bits of a side, taken further
+pub same-first : (𝓦 : Words) (table : List ℕ) (bits to : ℕ) → Reaches 𝓦 table bits to → (a : ℕ) → a < 2 ^ bits →
+    bitwise (𝓦 .scalars .arithmetic) (pairs 𝓦 table) (to - 0) 0 a ≡ bitwise (𝓦 .scalars .arithmetic) (pairs 𝓦 table) (bits - 0) 0 a
+same-first 𝓦 table bits to far a l =
+    let all : bits - 0 ≡ bits = omega arith in far .same 0 a (omega arith) (subst (λ (n : ℕ). a < 2 ^ n) (sym all) l)

@@ -11,6 +11,7 @@ use Rattle.field.specs.Fp.{p, fp}
 use Rattle.multilinear.specs.Eq.{eqFactor, bitwise}
 use Rattle.arrays.specs.Side.{Side, factors}
 use Rattle.weights.specs.Words.{Words, singles}
+use Rattle.weights.specs.declared.side.Weight.{Weight}
 
 -- the element at a place of a table
 abbrev pub elementIn : (𝓦 : Words) → List ℕ → ℕ → 𝓦 .scalars .arithmetic .Carrier
@@ -55,6 +56,11 @@ Small weight = weight < 10737418240
 pub record Weighs (table : List ℕ) (a from to weight : ℕ) : Type 0 where
   pub is : weight % p ≡ bitwise fp (pairs singles table) (to - from) from a
   pub small : Small weight
+
+-- the same with its count of factors (02, E4): one for each coordinate
+pub record Weighed (table : List ℕ) (a from to : ℕ) (weight : Weight) : Type 0 where
+  pub weighs : Weighs table a from to (weight .product)
+  pub counted : weight .factors ≡ to - from
 
 -- the bits of the limbs that have one of n bits
 abbrev pub filled : ℕ → ℕ

@@ -12,18 +12,28 @@ ghost use Rattle.algebra.specs.Points.{Below};
 ghost use Rattle.field.specs.Fp.{p, fp};
 ghost use Rattle.multilinear.specs.Eq.{eq, eqFactor};
 
-// eq(x; y), the product of x_i·y_i + (1 - x_i)(1 - y_i) for i from 0 up (004, 1.1.2). Inner: there are as many numbers in x as in y,
-// each below p.
-pub fn eq(x: &[u32], y: &[u32]) -> Fp
+// The product of some factors, and how many they are.
+pub struct Product {
+    pub value: Fp,
+    pub factors: usize,
+}
+
+// eq(x; y), the product of x_i·y_i + (1 - x_i)(1 - y_i) for i from 0 up (004, 1.1.2), with its count of factors, one for each coordinate
+// (02, E4). Inner: there are as many numbers in x as in y, each below p.
+pub fn eq(x: &[u32], y: &[u32]) -> Product
     requires { ⌜ (length (now x) ≡ length (now y)) × Below p (now x) × Below p (now y) ⌝ }
-    ensures { λ r. ⌜ r .0 ≡ eq fp (now (x .entry)) (now (y .entry)) ⌝ }
+    ensures product { λ r. ⌜ r .value .0 ≡ eq fp (now (x .entry)) (now (y .entry)) ⌝ }
+    ensures factors { λ r. ⌜ r .factors ≡ length (now (x .entry)) ⌝ }
 {
     let count = x.len();
     let mut product = Fp::one();
     for i in 0..count {
         product = product.mul(eq_factor(Fp::new(x[i]), Fp::new(y[i])));
     }
-    product
+    Product {
+        value: product,
+        factors: count,
+    }
 }
 
 // x·y + (1 - x)(1 - y), the factor of eq. Inner: both are below p.

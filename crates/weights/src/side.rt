@@ -2,12 +2,81 @@
 use crate::bits;
 use crate::limbs;
 use crate::table::PLACES;
-ghost use Prim.Native.Nat.{_≤_};
+ghost use mathlib.Core.Path.{_≡_};
+ghost use Prim.Native.Nat.{_-_, _^_, _≤_, _<_};
 ghost use Rattle.weights.specs.Words.{singles};
-ghost use Rattle.weights.specs.Side.{Prepared, Weighs, ForSide, Reaches};
+ghost use Rattle.weights.specs.Side.{Prepared, Weighs, Weighed, ForSide, Reaches};
 
-// The weight of a number over the first bits of a side, up to `to`. Inner: the table is one for so many bits.
-pub fn weigh(a: u32, table: &[u32], to: usize) -> u64
+// A weight: any small number that is the product of its factors modulo p, and how many factors there are, one for each coordinate
+// (02, E4).
+pub struct Weight {
+    pub product: u64,
+    pub factors: usize,
+}
+
+// So many bits of a side, and up to which bit weights over them are taken.
+pub struct Bits {
+    pub own: u8,
+    pub to: u8,
+}
+
+// The bits of an array on the two sides.
+pub struct Reached {
+    pub rows: Bits,
+    pub columns: Bits,
+}
+
+// The weight of a number over the first bits of a side, so many. Inner: the number has no more bits, and weights over them may be taken so
+// far.
+pub fn weigh(a: u32, table: &[u32], over: Bits) -> Weight
+    requires { ⌜ (a < 2 ^ (over .own)) × Reaches singles (now table) (over .own) (over .to) ⌝ }
+    ensures { λ r. ⌜ Weighed (now (table .entry)) a 0 (over .own) r ⌝ }
+{
+    Weight {
+        product: first(a, table, over.to as usize),
+        factors: over.own as usize,
+    }
+}
+
+// The weight of a call's position: that over the bits from one on, where the called array ends. Inner: likewise, and the first bit is not
+// behind the last.
+pub fn factor(a: u32, table: &[u32], from: usize, over: Bits) -> Weight
+    requires { ⌜ (from ≤ over .own) × (a < 2 ^ (over .own - from)) × Reaches singles (now table) (over .own) (over .to) ⌝ }
+    ensures { λ r. ⌜ Weighed (now (table .entry)) a from (over .own) r ⌝ }
+{
+    Weight {
+        product: between(a, table, from, over.to as usize),
+        factors: over.own as usize - from,
+    }
+}
+
+// So many bits of a side, and how far weights over them may be taken: to the end of the last limb, which is filled up, where these are all
+// the bits of the side and its table has blocks. Inner: the table is one for the side.
+pub fn reach(bits: u8, most: u8, table: &[u32]) -> Bits
+    requires { ⌜ (bits ≤ most) × ForSide singles most (now table) ⌝ }
+    ensures own { λ r. ⌜ r .own ≡ bits ⌝ }
+    ensures reached { λ r. ⌜ Reaches singles (now (table .entry)) bits (r .to) ⌝ }
+{
+    if table.len() <= PLACES {
+        return Bits {
+            own: bits,
+            to: bits,
+        };
+    }
+    if bits == most {
+        return Bits {
+            own: bits,
+            to: (bits + 4) / 5 * 5,
+        };
+    }
+    Bits {
+        own: bits,
+        to: bits,
+    }
+}
+
+// The product of a number's factors over the first bits of a side, up to `to`. Inner: the table is one for so many bits.
+fn first(a: u32, table: &[u32], to: usize) -> u64
     requires { ⌜ Prepared singles to (now table) ⌝ }
     ensures { λ r. ⌜ Weighs (now (table .entry)) a 0 to r ⌝ }
 {
@@ -18,9 +87,9 @@ pub fn weigh(a: u32, table: &[u32], to: usize) -> u64
     }
 }
 
-// The weight of a call's position: that over the bits from one, where the called array ends, up to another. Inner: likewise, and the first
-// bit is not behind the last. (As a call of this with 0, `weigh` would be slower: docs/PERFORMANCE.md.)
-pub fn factor(a: u32, table: &[u32], from: usize, to: usize) -> u64
+// The same over the bits from one up to another. Inner: likewise, and the first bit is not behind the last. (As a call of it with 0,
+// `first` would be slower: docs/PERFORMANCE.md.)
+fn between(a: u32, table: &[u32], from: usize, to: usize) -> u64
     requires { ⌜ (from ≤ to) × Prepared singles to (now table) ⌝ }
     ensures { λ r. ⌜ Weighs (now (table .entry)) a from to r ⌝ }
 {
@@ -29,19 +98,4 @@ pub fn factor(a: u32, table: &[u32], from: usize, to: usize) -> u64
     } else {
         limbs::limb_by_limb(a, table, from, to)
     }
-}
-
-// How far weights over so many bits of a side may be taken: to the end of the last limb, which is filled up, where these are all the bits
-// of the side and its table has blocks. Inner: the table is one for the side.
-pub fn reach(bits: u8, most: u8, table: &[u32]) -> u8
-    requires { ⌜ (bits ≤ most) × ForSide singles most (now table) ⌝ }
-    ensures { λ r. ⌜ Reaches singles (now (table .entry)) bits r ⌝ }
-{
-    if table.len() <= PLACES {
-        return bits;
-    }
-    if bits == most {
-        return (bits + 4) / 5 * 5;
-    }
-    bits
 }

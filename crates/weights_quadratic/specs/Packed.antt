@@ -10,6 +10,7 @@ use Rattle.quadratic.specs.Words.{elementOf}
 use Rattle.quadratic.specs.declared.unreduced.Unreduced.{Unreduced}
 use Rattle.weights.specs.Side.{pairs}
 use Rattle.weights.specs.Words.{Words}
+use Rattle.weights_quadratic.specs.declared.side.Weight.{Weight}
 
 -- elements of the field of p², one in each word
 abbrev pub packed : Words
@@ -20,3 +21,8 @@ packed = record { scalars = quadratic; element = elementOf; Proper = λ w. Reduc
 pub record Weighs (table : List ℕ) (a from to : ℕ) (weight : Unreduced) : Type 0 where
   pub is : remainders weight ≡ bitwise fp2 (pairs packed table) (to - from) from a
   pub small : Small weight
+
+-- the same with its count of factors (02, E4): one for each coordinate
+pub record Weighed (table : List ℕ) (a from to : ℕ) (weight : Weight) : Type 0 where
+  pub weighs : Weighs table a from to (weight .product)
+  pub counted : weight .factors ≡ to - from

@@ -16,18 +16,30 @@ ghost use Rattle.quadratic.specs.Fp2.{fp2};
 ghost use Rattle.quadratic.specs.Parts.{parts, PartsBelow};
 ghost use Rattle.quadratic.specs.Quadratic.{quadratic};
 
+// The product of some factors, and how many they are.
+pub struct Product {
+    pub value: Fp2,
+    pub factors: usize,
+}
+
 // eq(x; y), the product of x_i·y_i + (1 - x_i)(1 - y_i) for i from 0 up (004, 1.1.2), over elements of two numbers each; a number that is
-// left over makes no element. Inner: there are as many numbers in x as in y, each below p.
-pub fn eq(x: &[u32], y: &[u32]) -> Fp2
+// left over makes no element. Its count of factors is one for each coordinate (02, E4), and not one for each number. Inner: there are as
+// many numbers in x as in y, each below p.
+pub fn eq(x: &[u32], y: &[u32]) -> Product
     requires { ⌜ (length (now x) ≡ length (now y)) × Below p (now x) × Below p (now y) ⌝ }
-    ensures { λ r. ⌜ parts r ≡ eq fp2 (quadratic .elements (now (x .entry))) (quadratic .elements (now (y .entry))) ⌝ }
+    ensures product { λ r. ⌜
+        parts (r .value) ≡ eq fp2 (quadratic .elements (now (x .entry))) (quadratic .elements (now (y .entry))) ⌝ }
+    ensures factors { λ r. ⌜ r .factors ≡ length (quadratic .elements (now (x .entry))) ⌝ }
 {
     let count = x.len() / 2;
     let mut product = Fp2::one();
     for i in 0..count {
         product = product.mul(eq_factor(numbers::element(x, i), numbers::element(y, i)));
     }
-    product
+    Product {
+        value: product,
+        factors: count,
+    }
 }
 
 // x·y + (1 - x)(1 - y), the factor of eq. Inner: all parts are below p.

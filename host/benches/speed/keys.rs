@@ -1,7 +1,7 @@
 //! The keys that are timed, with a random point each.
 
 use crate::generator::random::Random;
-use crate::independent::key::{read, Body};
+use crate::independent::key::{factors, read};
 use crate::independent::record::{bytes, Record};
 use crate::records::{calls, cells, full, many, narrow, scaled, small};
 use crate::towers;
@@ -107,27 +107,8 @@ fn sample(random: &mut Random, name: &'static str, records: Vec<Record>) -> Samp
         columns: coordinates(read.columns),
         quadratic_rows: coordinates(2 * read.rows),
         quadratic_columns: coordinates(2 * read.columns),
-        factors: factors(&read),
+        factors: factors(&read) as usize,
         other: bytes(&others),
         key,
     }
-}
-
-/// The number of factors of all weights of a key.
-fn factors(key: &crate::independent::key::Key) -> usize {
-    let mut total = 0;
-    for array in &key.arrays {
-        let own = array.row_bits + array.column_bits;
-        total += match &array.body {
-            Body::Sparse(cells) => cells.len() * own as usize,
-            Body::Recursive(calls) => calls
-                .iter()
-                .map(|(call, _)| {
-                    let called = &key.arrays[usize::from(call.id)];
-                    (own - called.row_bits - called.column_bits) as usize
-                })
-                .sum(),
-        };
-    }
-    total
 }

@@ -7,10 +7,10 @@
 mod replies;
 mod served;
 
-use morgana::{Compared, Which};
+use morgana::{QuadraticValues, Values, Which};
 
-use crate::independent::field::Quadratic;
-use crate::independent::{CompareRefusal, Counts, Refusal};
+use crate::independent::field::{Fp, Quadratic};
+use crate::independent::{CompareRefusal, Compared, Counts, Evaluated, Refusal};
 pub use replies::*;
 pub use served::Served;
 
@@ -32,19 +32,18 @@ pub fn evaluate(
     rows: &[u32],
     columns: &[u32],
     sheet: &mut [u32],
-) -> Result<[u32; 3], Refusal> {
-    let answer = morgana::evaluate(key, rows, columns, sheet)
-        .map_err(refusal)?
-        .values;
-    Ok([answer.a, answer.b, answer.c])
+) -> Result<Evaluated<Fp>, Refusal> {
+    evaluated(morgana::evaluate(key, rows, columns, sheet))
 }
 
 /// Cell's answer through the safe call.
-pub fn cell(key: &[u8], row: u32, column: u32, sheet: &mut [u32]) -> Result<[u32; 3], Refusal> {
-    let answer = morgana::cell(key, row, column, sheet)
-        .map_err(refusal)?
-        .values;
-    Ok([answer.a, answer.b, answer.c])
+pub fn cell(
+    key: &[u8],
+    row: u32,
+    column: u32,
+    sheet: &mut [u32],
+) -> Result<Evaluated<Fp>, Refusal> {
+    evaluated(morgana::cell(key, row, column, sheet))
 }
 
 /// Compare's answer through the safe call.
@@ -54,7 +53,7 @@ pub fn compare(
     rows: &[u32],
     columns: &[u32],
     sheet: &mut [u32],
-) -> Result<bool, CompareRefusal> {
+) -> Result<Compared, CompareRefusal> {
     compared(morgana::compare(first, second, rows, columns, sheet))
 }
 
@@ -64,11 +63,13 @@ pub fn evaluate_quadratic(
     rows: &[u32],
     columns: &[u32],
     sheet: &mut [u32],
-) -> Result<[Quadratic; 3], Refusal> {
-    let answer = morgana::evaluate_quadratic(key, rows, columns, sheet)
-        .map_err(refusal)?
-        .values;
-    Ok([answer.a, answer.b, answer.c].map(|element| [element.u, element.v]))
+) -> Result<Evaluated<Quadratic>, Refusal> {
+    let answer = morgana::evaluate_quadratic(key, rows, columns, sheet).map_err(refusal)?;
+    let QuadraticValues { a, b, c } = answer.values;
+    Ok(Evaluated {
+        values: [a, b, c].map(|element| [element.u, element.v]),
+        factors: answer.factors,
+    })
 }
 
 /// Compare's answer over p² through the safe call.
@@ -78,7 +79,7 @@ pub fn compare_quadratic(
     rows: &[u32],
     columns: &[u32],
     sheet: &mut [u32],
-) -> Result<bool, CompareRefusal> {
+) -> Result<Compared, CompareRefusal> {
     compared(morgana::compare_quadratic(
         first, second, rows, columns, sheet,
     ))
@@ -89,10 +90,27 @@ pub fn moved(key: &[u8], buffer: &mut [u8]) -> Result<usize, Refusal> {
     morgana::moved(key, buffer).map_err(refusal)
 }
 
+/// An answer of evaluate or cell in the terms of the independent implementation.
+fn evaluated(
+    answer: Result<morgana::Evaluated<Values>, morgana::Refusal>,
+) -> Result<Evaluated<Fp>, Refusal> {
+    let answer = answer.map_err(refusal)?;
+    let Values { a, b, c } = answer.values;
+    Ok(Evaluated {
+        values: [a, b, c],
+        factors: answer.factors,
+    })
+}
+
 /// An answer of compare in the terms of the independent implementation.
-fn compared(answer: Result<Compared, morgana::CompareRefusal>) -> Result<bool, CompareRefusal> {
+fn compared(
+    answer: Result<morgana::Compared, morgana::CompareRefusal>,
+) -> Result<Compared, CompareRefusal> {
     match answer {
-        Ok(answer) => Ok(answer.same),
+        Ok(answer) => Ok(Compared {
+            same: answer.same,
+            factors: answer.factors,
+        }),
         Err(refused) => Err(CompareRefusal {
             key: match refused.which {
                 Which::First => 1,

@@ -2,8 +2,8 @@
 
 use morgana::raw::{self, CheckReply, CompareReply, EvaluateReply, MoveReply, QuadraticReply};
 
-use crate::independent::field::Quadratic;
-use crate::independent::{CompareRefusal, Counts, Refusal};
+use crate::independent::field::{Field, Fp, Quadratic};
+use crate::independent::{CompareRefusal, Compared, Counts, Evaluated, Refusal};
 
 /// The reply that check gives for an answer: all other fields 0 where it is a refusal.
 pub fn check_reply(answer: Result<Counts, Refusal>) -> CheckReply {
@@ -30,32 +30,21 @@ pub fn check_reply(answer: Result<Counts, Refusal>) -> CheckReply {
 }
 
 /// The reply that evaluate and cell give for an answer.
-pub fn evaluate_reply(answer: Result<[u32; 3], Refusal>) -> EvaluateReply {
-    match answer {
-        Ok([a, b, c]) => EvaluateReply {
-            number: 0,
-            place: 0,
-            a,
-            b,
-            c,
-        },
-        Err(Refusal { number, place }) => EvaluateReply {
-            number,
-            place,
-            a: 0,
-            b: 0,
-            c: 0,
-        },
+pub fn evaluate_reply(answer: Result<Evaluated<Fp>, Refusal>) -> EvaluateReply {
+    let (number, place, [a, b, c], factors) = parts(answer);
+    EvaluateReply {
+        number,
+        place,
+        a,
+        b,
+        c,
+        factors,
     }
 }
 
 /// The reply that evaluate over p² gives for an answer.
-pub fn quadratic_reply(answer: Result<[Quadratic; 3], Refusal>) -> QuadraticReply {
-    let (number, place) = match answer {
-        Ok(_) => (0, 0),
-        Err(Refusal { number, place }) => (number, place),
-    };
-    let [[a_u, a_v], [b_u, b_v], [c_u, c_v]] = answer.unwrap_or_default();
+pub fn quadratic_reply(answer: Result<Evaluated<Quadratic>, Refusal>) -> QuadraticReply {
+    let (number, place, [[a_u, a_v], [b_u, b_v], [c_u, c_v]], factors) = parts(answer);
     QuadraticReply {
         number,
         place,
@@ -65,23 +54,34 @@ pub fn quadratic_reply(answer: Result<[Quadratic; 3], Refusal>) -> QuadraticRepl
         b_v,
         c_u,
         c_v,
+        factors,
+    }
+}
+
+/// What the reply of evaluate has for an answer: number and place, the values and the count of factors.
+fn parts<F: Field>(answer: Result<Evaluated<F>, Refusal>) -> (u32, u64, [F; 3], u64) {
+    match answer {
+        Ok(Evaluated { values, factors }) => (0, 0, values, factors),
+        Err(Refusal { number, place }) => (number, place, [F::default(); 3], 0),
     }
 }
 
 /// The reply that compare gives for an answer.
-pub fn compare_reply(answer: Result<bool, CompareRefusal>) -> CompareReply {
+pub fn compare_reply(answer: Result<Compared, CompareRefusal>) -> CompareReply {
     match answer {
-        Ok(same) => CompareReply {
+        Ok(Compared { same, factors }) => CompareReply {
             number: 0,
             place: 0,
             key: 0,
             same: same.into(),
+            factors,
         },
         Err(CompareRefusal { key, refusal }) => CompareReply {
             number: refusal.number,
             place: refusal.place,
             key,
             same: 0,
+            factors: 0,
         },
     }
 }

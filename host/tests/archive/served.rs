@@ -21,13 +21,13 @@ pub trait Served: Lazy {
         rows: &[u32],
         columns: &[u32],
         sheet: &mut [u32],
-    ) -> Result<[Self; 3], Refusal>;
+    ) -> Result<Evaluated<Self>, Refusal>;
 
     /// Evaluate's reply as C sees it.
     fn raw_evaluate(key: &[u8], rows: &[u32], columns: &[u32], sheet: &mut [u32]) -> Self::Reply;
 
     /// The reply that evaluate gives for an answer.
-    fn reply(answer: Result<[Self; 3], Refusal>) -> Self::Reply;
+    fn reply(answer: Result<Evaluated<Self>, Refusal>) -> Self::Reply;
 
     /// Compare's answer through the safe call.
     fn compare(
@@ -36,7 +36,7 @@ pub trait Served: Lazy {
         rows: &[u32],
         columns: &[u32],
         sheet: &mut [u32],
-    ) -> Result<bool, CompareRefusal>;
+    ) -> Result<Compared, CompareRefusal>;
 
     /// Compare's reply as C sees it.
     fn raw_compare(
@@ -57,7 +57,7 @@ impl Served for Fp {
         rows: &[u32],
         columns: &[u32],
         sheet: &mut [u32],
-    ) -> Result<[Fp; 3], Refusal> {
+    ) -> Result<Evaluated<Fp>, Refusal> {
         evaluate(key, rows, columns, sheet)
     }
 
@@ -65,7 +65,7 @@ impl Served for Fp {
         raw_evaluate(key, rows, columns, sheet)
     }
 
-    fn reply(answer: Result<[Fp; 3], Refusal>) -> EvaluateReply {
+    fn reply(answer: Result<Evaluated<Fp>, Refusal>) -> EvaluateReply {
         evaluate_reply(answer)
     }
 
@@ -75,7 +75,7 @@ impl Served for Fp {
         rows: &[u32],
         columns: &[u32],
         sheet: &mut [u32],
-    ) -> Result<bool, CompareRefusal> {
+    ) -> Result<Compared, CompareRefusal> {
         compare(first, second, rows, columns, sheet)
     }
 
@@ -99,7 +99,7 @@ impl Served for Quadratic {
         rows: &[u32],
         columns: &[u32],
         sheet: &mut [u32],
-    ) -> Result<[Quadratic; 3], Refusal> {
+    ) -> Result<Evaluated<Quadratic>, Refusal> {
         evaluate_quadratic(key, rows, columns, sheet)
     }
 
@@ -112,7 +112,7 @@ impl Served for Quadratic {
         raw_evaluate_quadratic(key, rows, columns, sheet)
     }
 
-    fn reply(answer: Result<[Quadratic; 3], Refusal>) -> QuadraticReply {
+    fn reply(answer: Result<Evaluated<Quadratic>, Refusal>) -> QuadraticReply {
         quadratic_reply(answer)
     }
 
@@ -122,7 +122,7 @@ impl Served for Quadratic {
         rows: &[u32],
         columns: &[u32],
         sheet: &mut [u32],
-    ) -> Result<bool, CompareRefusal> {
+    ) -> Result<Compared, CompareRefusal> {
         compare_quadratic(first, second, rows, columns, sheet)
     }
 

@@ -10,7 +10,7 @@ use std::ops::RangeInclusive;
 
 use crate::generator::random::Random;
 use crate::independent::field::Field;
-use crate::independent::{CompareRefusal, Refusal};
+use crate::independent::{CompareRefusal, Compared, Evaluated, Refusal};
 use crate::lent::Lent;
 
 /// The seed where `MORGANA_SEED` gives none.
@@ -143,9 +143,9 @@ pub fn outcomes(named: &[&str], ranges: &[(&str, RangeInclusive<u32>)]) -> Vec<S
 }
 
 /// The outcome of an answer of evaluate or cell.
-pub fn values_outcome<F: Field>(answer: &Result<[F; 3], Refusal>) -> String {
+pub fn values_outcome<F: Field>(answer: &Result<Evaluated<F>, Refusal>) -> String {
     match answer {
-        Ok(values) if *values == [F::default(); 3] => String::from("zero"),
+        Ok(answer) if answer.values == [F::default(); 3] => String::from("zero"),
         _ => outcome(answer),
     }
 }
@@ -159,10 +159,10 @@ pub fn outcome<T>(answer: &Result<T, Refusal>) -> String {
 }
 
 /// The outcome of an answer of compare.
-pub fn compare_outcome(answer: &Result<bool, CompareRefusal>) -> String {
+pub fn compare_outcome(answer: &Result<Compared, CompareRefusal>) -> String {
     match answer {
-        Ok(true) => String::from("same"),
-        Ok(false) => String::from("different"),
+        Ok(Compared { same: true, .. }) => String::from("same"),
+        Ok(Compared { same: false, .. }) => String::from("different"),
         Err(CompareRefusal { key, refusal }) => {
             let which = ["neither", "first", "second"][*key as usize];
             format!("{which} {}", refusal.number)

@@ -7,6 +7,7 @@ use crate::generator::inputs::Point;
 use crate::generator::random::Random;
 use crate::independent::calls::{self, places};
 use crate::independent::field::Field;
+use crate::independent::Compared;
 use crate::lent::{lend_bytes, lend_numbers};
 
 /// One case of check, by the safe call and by the raw one.
@@ -34,6 +35,7 @@ pub fn evaluate_case<F: Served>(
     let answer = calls::evaluate::<F>(key, rows, columns, &mut wanted);
     let input = format!("rows {rows:?} columns {columns:?} sheet {sheet:?}");
     let mut case = Case::new(&[key], input, values_outcome(&answer));
+    hold_limit(&mut case, &[key], answer.map(|answer| answer.factors));
     let key = lend_bytes(random, key);
     let rows = lend_numbers(random, rows);
     let columns = lend_numbers(random, columns);
@@ -66,6 +68,7 @@ pub fn cell_case(random: &mut Random, key: &[u8], row: u32, column: u32, sheet: 
     let answer = calls::cell(key, row, column, &mut wanted);
     let input = format!("row {row} column {column} sheet {sheet:?}");
     let mut case = Case::new(&[key], input, values_outcome(&answer));
+    hold_limit(&mut case, &[key], answer.map(|answer| answer.factors));
     let key = lend_bytes(random, key);
     let mut sheet = lend_numbers(random, sheet);
 
@@ -92,12 +95,15 @@ pub fn compare_case<F: Served>(
     let mut wanted = sheet.to_vec();
     let answer = calls::compare::<F>(first, second, rows, columns, &mut wanted);
     let input = format!("rows {rows:?} columns {columns:?} sheet {sheet:?}");
-    let outcome = if answer == Ok(true) && is_zero_at_last::<F>(second, &wanted) {
+    let same = matches!(answer, Ok(Compared { same: true, .. }));
+    let outcome = if same && is_zero_at_last::<F>(second, &wanted) {
         String::from("same at zero")
     } else {
         compare_outcome(&answer)
     };
     let mut case = Case::new(&[first, second], input, outcome);
+    let factors = answer.map(|answer| answer.factors);
+    hold_limit(&mut case, &[first, second], factors);
     let first = lend_bytes(random, first);
     let second = lend_bytes(random, second);
     let rows = lend_numbers(random, rows);
@@ -125,6 +131,15 @@ pub fn compare_case<F: Served>(
     case.hold_sheet("sheet of the reply", &mut sheet, &wanted);
     case.hold_unchanged(&[&first, &second], &[&rows, &columns]);
     case
+}
+
+/// Notes a fault where the count of factors that is wanted of these keys, unless they are refused, passes their limits.
+fn hold_limit<R>(case: &mut Case, keys: &[&[u8]], factors: Result<u64, R>) {
+    if let Ok(factors) = factors {
+        let counts = |key: &&[u8]| calls::check(key).expect("the key is accepted");
+        let limit: u64 = keys.iter().map(|key| counts(key).limit()).sum();
+        case.hold("factors within the limit", factors <= limit, true);
+    }
 }
 
 /// Whether the last array's values of an accepted key are zero on a sheet on which it was evaluated last.

@@ -31,6 +31,9 @@ pub fn move_case(random: &mut Random, key: &[u8], buffer: &[u8]) -> Case {
         case.hold("there and back", &back[..], key);
         let counts = archive::check(&wanted[..length]);
         case.hold("counts of the copy", counts, archive::check(key));
+        let cell = |key: &[u8]| archive::cell(key, 0, 0, &mut [0; 3 * 1_024]);
+        let got = cell(&wanted[..length]);
+        case.hold("values and factors of the copy", got, cell(key));
     }
     case
 }

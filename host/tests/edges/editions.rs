@@ -1,6 +1,6 @@
 //! Edition 2: factors and their refusals, calls and heads of the other edition, and what factors give.
 
-use crate::archive;
+use crate::factors;
 use crate::independent::field::product;
 use crate::independent::record::bytes;
 use crate::independent::record::Record::{self, End, Head, Recursive, ScaledHead, Sparse};
@@ -151,12 +151,11 @@ fn factors_multiply() {
             assert_eq!(sheet[6], 9);
             assert_eq!(dense(&one, row, 0), Ok(times(VALUES, factor)));
             assert_eq!(dense(&one, 1 - row, 0), Ok([0; 3]));
-            let over_p_squared =
-                archive::evaluate_quadratic(&one, &[0, 1], &[], &mut [9; 12]).unwrap();
+            let over_p_squared = evaluate_quadratic(&one, &[0, 1], &[], &mut [9; 12]);
             let [u, v] = if row == 1 { [0, 1] } else { [1, P - 1] };
             let scaled = times(VALUES, factor);
             let wanted = scaled.map(|value| [product(value, u), product(value, v)]);
-            assert_eq!(over_p_squared, wanted);
+            assert_eq!(over_p_squared, Ok(wanted));
         }
     }
 }
@@ -241,6 +240,7 @@ fn full_of_factors() {
     let full = scaled_key(30, 30, &body);
     assert_eq!(full.len(), 65_536);
     accepts(&full, 7, 1, 4_366);
+    factors::hold(&full, 4_366 * (30 + 30));
     let wanted = times(VALUES, P - 4_366);
     assert_eq!(dense(&full, greatest, greatest), Ok(wanted));
     let (rows, columns) = (vec![P - 1; 30], vec![P - 2; 30]);
@@ -253,6 +253,7 @@ fn full_of_factors() {
     }
     let tower = scaled_key(0, 0, &body);
     accepts(&tower, 1_024, 1, 1_023);
+    factors::hold(&tower, 0);
     let doubled = times(VALUES, power_of_two(1_023));
     assert_eq!(values(&tower, &[], &[]), Ok(doubled));
 }
@@ -268,8 +269,7 @@ fn one_of_each_edition() {
             for keys in [[&plain[..], &scaled], [&scaled, &plain]] {
                 let answer = compare(keys[0], keys[1], &[3], &[], &mut [9; 6]);
                 assert_eq!(answer, Ok(same));
-                let answer =
-                    archive::compare_quadratic(keys[0], keys[1], &[3, 5], &[], &mut [9; 12]);
+                let answer = compare_quadratic(keys[0], keys[1], &[3, 5], &[], &mut [9; 12]);
                 assert_eq!(answer, Ok(same));
             }
             // At row 0 the call weighs 0, so that keys that differ are found the same there.

@@ -1,5 +1,6 @@
 //! Keys of 65,536 bytes, compared with closed forms.
 
+use crate::factors;
 use crate::generator::random::Random;
 use crate::independent::field::{sum, Fp};
 use crate::independent::pass;
@@ -23,6 +24,7 @@ fn full_of_cells() {
     let full = key(5, 6, &body);
     assert_eq!(full.len(), 65_536);
     accepts(&full, 4, 3_120, 0);
+    factors::hold(&full, 3_120 * (5 + 6));
     // The second round has filled the columns below 32 alone: 1 for all places and once more
     // 1 less the last column coordinate.
     let (rows, columns) = (coordinates(4, 5), coordinates(5, 6));
@@ -44,6 +46,7 @@ fn full_of_calls() {
     let full = key(30, 30, &body);
     assert_eq!(full.len(), 65_536);
     accepts(&full, 13, 1, 5_952);
+    factors::hold(&full, 5_952 * (30 + 30));
     let (rows, columns) = (vec![P - 1; 30], vec![P - 2; 30]);
     let weight = power_of_two(30);
     let wanted = times(times(VALUES, 5_952), weight);
@@ -75,5 +78,7 @@ fn full_of_both() {
     let answer = pass::evaluate::<Factors<Fp>>(&full, &rows, &columns, &mut wanted);
     let mut sheet = vec![7; 3_072];
     assert_eq!(evaluate(&full, &rows, &columns, &mut sheet), answer);
+    // A cell has 15 and 15 bits, and a call adds as many.
+    factors::hold(&full, 30 * (1_560 + 2_976));
     assert_eq!(sheet, wanted);
 }

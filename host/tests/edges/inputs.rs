@@ -1,6 +1,5 @@
 //! Refusals 21 to 24 and 31: points, rows, columns and sheets.
 
-use crate::archive;
 use crate::independent::field::eq;
 use crate::independent::record::Record::Sparse;
 use crate::written::*;
@@ -45,7 +44,7 @@ fn sheets() {
         let mut sheet = vec![5; length];
         let answer = evaluate(&sample, &[3], &[4], &mut sheet);
         assert_eq!(answer, refusal(31, 6));
-        let answer = archive::cell(&sample, 0, 0, &mut sheet);
+        let answer = cell_of(&sample, 0, 0, &mut sheet);
         assert_eq!(answer, refusal(31, 6));
         assert_eq!(sheet, vec![5; length]);
     }
@@ -53,7 +52,7 @@ fn sheets() {
         let mut sheet = vec![5; length];
         assert!(evaluate(&sample, &[3], &[4], &mut sheet).is_ok());
         assert_eq!(sheet[6..], vec![5; length - 6]);
-        assert!(archive::cell(&sample, 0, 0, &mut sheet).is_ok());
+        assert!(cell_of(&sample, 0, 0, &mut sheet).is_ok());
         assert_eq!(sheet[6..], vec![5; length - 6]);
     }
     let many = key(0, 0, &[Sparse(0, 0); 1_024]);
@@ -74,9 +73,9 @@ fn rows_and_columns_of_cell() {
     assert_eq!(dense(&small, 3, 0), Ok([0, 0, 0]));
     let mut sheet = [5; 3];
     let mut refused = |row, column, number, place| {
-        let answer = archive::cell(&small, row, column, &mut sheet);
+        let answer = cell_of(&small, row, column, &mut sheet);
         assert_eq!(answer, refusal(number, place));
-        let answer = archive::cell(&small, row, column, &mut sheet[..2]);
+        let answer = cell_of(&small, row, column, &mut sheet[..2]);
         assert_eq!(answer, refusal(number, place));
         assert_eq!(sheet, [5; 3]);
     };

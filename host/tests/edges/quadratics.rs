@@ -1,44 +1,13 @@
 //! Points of two numbers a coordinate: products, the old answers, and every refusal about its edge.
 
-use crate::archive::{self, Served};
 use crate::independent::field::{elements, eq, Field, Quadratic};
 use crate::independent::record::Record::{Recursive, Sparse};
 use crate::independent::{CompareRefusal, Refusal};
-use crate::written::*;
+use crate::written::{call, cell, key, refusal, sample, P};
+use crate::written::{compare_quadratic as compare, evaluate_quadratic as evaluate};
 
 /// The element -1 - i, whose two numbers are p - 1.
 const GREATEST: Quadratic = [P - 1, P - 1];
-
-/// What evaluate answers over p², held through the raw call too.
-fn evaluate(
-    key: &[u8],
-    rows: &[u32],
-    columns: &[u32],
-    sheet: &mut [u32],
-) -> Result<[Quadratic; 3], Refusal> {
-    let mut other = sheet.to_vec();
-    let answer = archive::evaluate_quadratic(key, rows, columns, sheet);
-    let reply = archive::raw_evaluate_quadratic(key, rows, columns, &mut other);
-    assert_eq!(reply, Quadratic::reply(answer));
-    assert_eq!(sheet, other);
-    answer
-}
-
-/// What compare answers over p², held through the raw call too.
-fn compare(
-    keys: [&[u8]; 2],
-    rows: &[u32],
-    columns: &[u32],
-    sheet: &mut [u32],
-) -> Result<bool, CompareRefusal> {
-    let [first, second] = keys;
-    let mut other = sheet.to_vec();
-    let answer = archive::compare_quadratic(first, second, rows, columns, sheet);
-    let reply = archive::raw_compare_quadratic(first, second, rows, columns, &mut other);
-    assert_eq!(reply, archive::compare_reply(answer));
-    assert_eq!(sheet, other);
-    answer
-}
 
 /// The product of two elements as the weight of a cell: i·i is -1.
 #[test]
@@ -116,8 +85,8 @@ fn points() {
         for length in [7, 5] {
             let answer = evaluate(&two_by_three, rows, columns, &mut sheet[..length]);
             assert_eq!(answer, refusal(number, place));
-            let keys = [&two_by_three[..], &two_by_three];
-            let answer = compare(keys, rows, columns, &mut sheet[..length]);
+            let (one, other) = (&two_by_three, &two_by_three);
+            let answer = compare(one, other, rows, columns, &mut sheet[..length]);
             let refusal = Refusal { number, place };
             assert_eq!(answer, Err(CompareRefusal { key: 0, refusal }));
         }
@@ -154,9 +123,9 @@ fn sheets() {
             assert_eq!(answer, Ok([[P - 20, 0], [P - 28, 0], [0, 0]]));
             assert_eq!(sheet[12..], vec![5; length - 12]);
         }
-        for keys in [[&sample[..], &short], [&short, &sample]] {
+        for [one, other] in [[&sample[..], &short], [&short, &sample]] {
             let mut sheet = vec![5; length];
-            let answer = compare(keys, point.0, point.1, &mut sheet);
+            let answer = compare(one, other, point.0, point.1, &mut sheet);
             if length < 12 {
                 let (number, place) = (31, 12);
                 let refusal = Refusal { number, place };
@@ -194,14 +163,15 @@ fn same_and_different() {
         ([1, 0], [P - 1, 0], true),
         ([0, 1], [0, 2], false),
     ] {
-        for keys in [[&one[..], &none], [&none, &one]] {
-            assert_eq!(compare(keys, &row, &column, &mut [9; 6]), Ok(same));
+        for [one, other] in [[&one[..], &none], [&none, &one]] {
+            assert_eq!(compare(one, other, &row, &column, &mut [9; 6]), Ok(same));
         }
     }
     let single = |value| key(1, 0, &[Sparse(1, 0), cell(1, 0, [0, value, 0])]);
-    let keys = [&single(1)[..], &single(2)];
-    assert_eq!(compare(keys, &[0, 1], &[], &mut [9; 6]), Ok(false));
-    assert_eq!(compare(keys, &[0, 0], &[], &mut [9; 6]), Ok(true));
+    for (row, same) in [([0, 1], false), ([0, 0], true)] {
+        let answer = compare(&single(1), &single(2), &row, &[], &mut [9; 6]);
+        assert_eq!(answer, Ok(same));
+    }
 }
 
 /// Compare's sheet: the second key's numbers, the first's beyond them, then as lent.
@@ -216,14 +186,14 @@ fn sheet_of_compare() {
     let long = key(1, 0, &body);
     let short = key(1, 0, &[Sparse(1, 0), cell(1, 0, [7, 8, 9])]);
     let mut sheet = [11; 14];
-    let answer = compare([&long, &short], &[5, 6], &[], &mut sheet);
+    let answer = compare(&long, &short, &[5, 6], &[], &mut sheet);
     assert_eq!(answer, Ok(false));
     assert_eq!(
         sheet,
         [35, 42, 40, 48, 45, 54, 5, 6, 10, 12, 15, 18, 11, 11]
     );
     let mut sheet = [11; 12];
-    let answer = compare([&short, &long], &[5, 6], &[], &mut sheet);
+    let answer = compare(&short, &long, &[5, 6], &[], &mut sheet);
     assert_eq!(answer, Ok(false));
     assert_eq!(sheet, [1, 0, 2, 0, 3, 0, 5, 6, 10, 12, 15, 18]);
 }

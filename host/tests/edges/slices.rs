@@ -4,7 +4,7 @@ use std::ptr::{null, null_mut};
 
 use crate::archive;
 use crate::independent::record::Record::Sparse;
-use crate::independent::{CompareRefusal, Refusal};
+use crate::independent::{CompareRefusal, Compared, Evaluated, Refusal};
 use crate::written::{cell, key, sample};
 use morgana::raw::{morgana_cell, morgana_check, morgana_compare, morgana_evaluate};
 use morgana::raw::{morgana_compare_quadratic, morgana_evaluate_quadratic, morgana_move};
@@ -13,6 +13,17 @@ use morgana::raw::{morgana_compare_quadratic, morgana_evaluate_quadratic, morgan
 fn single() -> Vec<u8> {
     key(0, 0, &[Sparse(0, 0), cell(0, 0, [4, 5, 6])])
 }
+
+/// The answer of evaluate with these values to a key without bits, whose weights have no factors.
+fn without_factors<F>(values: [F; 3]) -> Result<Evaluated<F>, Refusal> {
+    Ok(Evaluated { values, factors: 0 })
+}
+
+/// The answer "same" to two such keys.
+const SAME: Result<Compared, CompareRefusal> = Ok(Compared {
+    same: true,
+    factors: 0,
+});
 
 /// A refusal of the key itself, at its first byte.
 const MISSING: Refusal = Refusal {
@@ -56,7 +67,8 @@ fn null_point() {
         let (bytes, length) = (key.as_ptr(), key.len());
         let out = sheet.as_mut_ptr();
         let reply = morgana_evaluate(bytes, length, null(), 0, null(), 0, out, 4);
-        assert_eq!(reply, archive::evaluate_reply(Ok([4, 5, 6])));
+        let wanted = without_factors([4, 5, 6]);
+        assert_eq!(reply, archive::evaluate_reply(wanted));
     }
     assert_eq!(sheet, [4, 5, 6, 7]);
 }
@@ -129,7 +141,7 @@ fn nulls_of_compare() {
     unsafe {
         let out = sheet.as_mut_ptr();
         let reply = morgana_compare(bytes, length, bytes, length, none, 0, none, 0, out, 4);
-        assert_eq!(reply, archive::compare_reply(Ok(true)));
+        assert_eq!(reply, archive::compare_reply(SAME));
     }
     assert_eq!(sheet, [4, 5, 6, 7]);
 }
@@ -163,13 +175,11 @@ fn nulls_over_p_squared() {
     unsafe {
         let out = sheet.as_mut_ptr();
         let reply = morgana_evaluate_quadratic(bytes, length, none, 0, none, 0, out, 7);
-        assert_eq!(
-            reply,
-            archive::quadratic_reply(Ok([[4, 0], [5, 0], [6, 0]]))
-        );
+        let wanted = without_factors([[4, 0], [5, 0], [6, 0]]);
+        assert_eq!(reply, archive::quadratic_reply(wanted));
         let reply =
             morgana_compare_quadratic(bytes, length, bytes, length, none, 0, none, 0, out, 7);
-        assert_eq!(reply, archive::compare_reply(Ok(true)));
+        assert_eq!(reply, archive::compare_reply(SAME));
     }
     assert_eq!(sheet, [4, 0, 5, 0, 6, 0, 7]);
 }

@@ -1,6 +1,5 @@
 //! The starred cases, and the shortcuts that give wrong evaluations.
 
-use crate::archive;
 use crate::independent::field::{difference, eq, product, sum};
 use crate::independent::record::Record::{Recursive, Sparse};
 use crate::written::*;
@@ -105,7 +104,7 @@ fn keysheet_input() {
     let wanted = [20, 28, 0, 2_147_483_567, 2_147_483_535, 0, 1, 1];
     assert_eq!(sheet, wanted);
     let mut sheet = [1; 7];
-    let answer = archive::cell(&sample, 0, 1, &mut sheet);
+    let answer = cell_of(&sample, 0, 1, &mut sheet);
     assert_eq!(answer, Ok([10, 14, 0]));
     assert_eq!(sheet, [5, 7, 0, 10, 14, 0, 1]);
 }

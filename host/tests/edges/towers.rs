@@ -4,7 +4,12 @@
 //! value by 1 - r + 2r = 1 + r, and its dense value by 2 where the bit is 1. A level of the same
 //! shape with t calls multiplies by t. As 2^31 is 1 modulo p, a power of 2 depends on its exponent
 //! modulo 31 alone.
+//!
+//! A call counts the factors of the bits that its array has and the called one has not: of the new bit
+//! one, and none in a level of the same shape. The cell, in an array without bits, counts none. So a
+//! tower counts three for each level that adds a bit, and no other level adds to that.
 
+use crate::factors;
 use crate::generator::random::Random;
 use crate::independent::field::{product, sum};
 use crate::independent::record::Record::{Recursive, Sparse};
@@ -46,6 +51,7 @@ fn hold_tower(bits: u8, doublings: usize) {
     let key = tower(bits, doublings);
     let arrays = 1 + u32::from(bits) + doublings as u32;
     accepts(&key, arrays, 1, 3 * u32::from(bits) + 2 * doublings as u32);
+    factors::hold(&key, 3 * u64::from(bits));
     let (row_bits, column_bits) = (u32::from(bits.div_ceil(2)), u32::from(bits / 2));
     let rows = coordinates(1, row_bits as usize);
     let columns = coordinates(2, column_bits as usize);
@@ -81,6 +87,22 @@ fn a_thousand_levels() {
     hold_tower(60, 940);
     hold_tower(0, 1_000);
     hold_tower(1, 1_022);
+}
+
+/// Level j has j row and j column bits and calls every level below it once, so that it counts 2·(j - i) for each level
+/// i below: j·(j + 1) together. Over levels 1 to n that is n·(n + 1)·(n + 2) / 3: 9,920 for 30 levels.
+#[test]
+fn calls_of_every_level_below() {
+    for levels in [1, 2, 3, 10, 30] {
+        let mut body = vec![Sparse(0, 0), cell(0, 0, VALUES)];
+        for level in 1..=levels {
+            body.push(Recursive(level, level));
+            body.extend((0..u16::from(level)).map(|below| call(below, 0, 1)));
+        }
+        let n = u64::from(levels);
+        let tower = key(levels, levels, &body);
+        factors::hold(&tower, n * (n + 1) * (n + 2) / 3);
+    }
 }
 
 /// The sheet of a tower that doubles: array i holds the cell's values times 2^i.

@@ -2,10 +2,10 @@
 
 use super::dense::{extension, extension_of_places, unroll, unroll_places, Places};
 use super::field::{bits, elements, Field, Fp, P};
-use super::key::{counts, read, Body, Key};
+use super::key::{counts, factors, read, Body, Key};
 use super::pass::factors::Factors;
 use super::pass::{self, Lazy, Weights};
-use super::{refuse, CompareRefusal, Counts, Refusal};
+use super::{refuse, CompareRefusal, Compared, Counts, Evaluated, Refusal};
 
 /// The greatest number of additions for which a key is unrolled into whole matrices.
 const MOST_ADDITIONS: usize = 60_000;
@@ -99,16 +99,24 @@ pub fn evaluate<F: Lazy>(
     rows: &[u32],
     columns: &[u32],
     sheet: &mut [u32],
-) -> Result<[F; 3], Refusal> {
+) -> Result<Evaluated<F>, Refusal> {
     let key = read(bytes)?;
     judge_point::<F>(&key, rows, columns)?;
     judge_sheet::<F>(key.arrays.len(), sheet)?;
-    Ok(write(&values(bytes, &key, rows, columns), sheet))
+    Ok(Evaluated {
+        values: write(&values(bytes, &key, rows, columns), sheet),
+        factors: factors(&key),
+    })
 }
 
 /// Cell: check, 24, 31; the dense values at a row and a column, and the sheet as after evaluate
 /// at their bits.
-pub fn cell(bytes: &[u8], row: u32, column: u32, sheet: &mut [u32]) -> Result<[u32; 3], Refusal> {
+pub fn cell(
+    bytes: &[u8],
+    row: u32,
+    column: u32,
+    sheet: &mut [u32],
+) -> Result<Evaluated<Fp>, Refusal> {
     let key = read(bytes)?;
     if u64::from(row) >= 1 << key.rows {
         return refuse(24, 0);
@@ -120,7 +128,10 @@ pub fn cell(bytes: &[u8], row: u32, column: u32, sheet: &mut [u32]) -> Result<[u
     let rows = bits(row, key.rows);
     let columns = bits(column, key.columns);
     let answer = write(&values(bytes, &key, &rows, &columns), sheet);
-    Ok(dense_values(&key, row, column).unwrap_or(answer))
+    Ok(Evaluated {
+        values: dense_values(&key, row, column).unwrap_or(answer),
+        factors: factors(&key),
+    })
 }
 
 /// The last array's dense values at a row and a column, where the key is small enough to unroll.
@@ -141,7 +152,7 @@ pub fn compare<F: Lazy>(
     rows: &[u32],
     columns: &[u32],
     sheet: &mut [u32],
-) -> Result<bool, CompareRefusal> {
+) -> Result<Compared, CompareRefusal> {
     let of = |key| move |refusal| CompareRefusal { key, refusal };
     let one = read(first).map_err(of(1))?;
     let other = read(second).map_err(of(2))?;
@@ -153,7 +164,10 @@ pub fn compare<F: Lazy>(
     judge_sheet::<F>(arrays, sheet).map_err(of(0))?;
     let of_first: [F; 3] = write(&values(first, &one, rows, columns), sheet);
     let of_second = write(&values(second, &other, rows, columns), sheet);
-    Ok(of_first == of_second)
+    Ok(Compared {
+        same: of_first == of_second,
+        factors: factors(&one) + factors(&other),
+    })
 }
 
 /// Refusals 21, 22 and 23, which count numbers.

@@ -184,3 +184,24 @@ pub fn counts(key: &Key) -> Counts {
     }
     counts
 }
+
+/// The count of factors of a key's weights, one for each coordinate: a cell counts its array's bits, and a call those bits
+/// less the called array's. All arrays count, and a call's own factor does not.
+pub fn factors(key: &Key) -> u64 {
+    key.arrays.iter().map(|array| factors_of(array, key)).sum()
+}
+
+/// The count of factors of one array.
+fn factors_of(array: &Array, key: &Key) -> u64 {
+    let bits = |array: &Array| u64::from(array.row_bits + array.column_bits);
+    match &array.body {
+        Body::Sparse(cells) => bits(array) * cells.len() as u64,
+        Body::Recursive(calls) => {
+            let called = |call: &Call| &key.arrays[usize::from(call.id)];
+            let each = calls
+                .iter()
+                .map(|(call, _)| bits(array) - bits(called(call)));
+            each.sum()
+        }
+    }
+}

@@ -2,7 +2,7 @@
 //!
 //! - `field`: the fields of p and of p² elements by `%`, and eq.
 //! - `record`: the eight records, taken from bytes and put into bytes.
-//! - `key`: a key read and judged.
+//! - `key`: a key read and judged, and its counts.
 //! - `dense`: the matrices of every array unrolled, and their multilinear extensions.
 //! - `edition`: a key moved into the other edition.
 //! - `calls`: check, evaluate, cell and compare on top of these, evaluate and compare over either field.
@@ -42,6 +42,27 @@ pub struct Counts {
     pub calls: u32,
     pub rows: u32,
     pub columns: u32,
+}
+
+impl Counts {
+    /// The limit of the count of factors: (n + n')·(cells + calls).
+    pub fn limit(&self) -> u64 {
+        u64::from(self.rows + self.columns) * u64::from(self.cells + self.calls)
+    }
+}
+
+/// What evaluate and cell answer: the last array's values, and the key's count of factors.
+#[derive(Debug, Clone, Copy, PartialEq, Eq)]
+pub struct Evaluated<F> {
+    pub values: [F; 3],
+    pub factors: u64,
+}
+
+/// What compare answers: whether all three values agree, and the sum of both keys' counts of factors.
+#[derive(Debug, Clone, Copy, PartialEq, Eq)]
+pub struct Compared {
+    pub same: bool,
+    pub factors: u64,
 }
 
 /// A refusal of compare; `key` is 1 for the first, 2 for the second, 0 for neither.

@@ -4,17 +4,18 @@ use crate::keys::{cell, flat, head, sample, single, single_in_two, sparse, wide,
 use crate::support::Folder;
 use std::collections::BTreeSet;
 
-/// The verdict's two lines, and the numbers of each line of the points.
-fn parts(out: &str) -> ([&str; 2], Vec<(&str, Vec<u32>)>) {
+/// The verdict's two lines, the numbers of each line of the points, and the line of the factors.
+fn parts(out: &str) -> ([&str; 2], Vec<(&str, Vec<u32>)>, &str) {
     let mut lines = out.lines();
     let verdict = [(); 2].map(|()| lines.next().expect("a verdict has two lines"));
+    let factors = lines.next_back().expect("the factors come last");
     let point = |line| {
         let mut words = str::split_ascii_whitespace(line);
         let word = words.next().expect("a line has a word");
         let numbers = words.map(|number| number.parse().expect("a number"));
         (word, numbers.collect())
     };
-    (verdict, lines.map(point).collect())
+    (verdict, lines.map(point).collect(), factors)
 }
 
 #[test]
@@ -35,7 +36,7 @@ fn the_verdict_comes_first_and_the_points_behind_it() {
     ] {
         let ran = folder.run(&[&["compare", "sample", "flat"], option].concat());
         assert_eq!((ran.status, ran.errors.as_str()), (Some(0), ""));
-        let (verdict, used) = parts(&ran.out);
+        let (verdict, used, factors) = parts(&ran.out);
         let bound = format!("keys that differ would pass with probability at most {bound}");
         assert_eq!(verdict, ["same", &bound]);
         assert_eq!(used.len(), 2 * points);
@@ -43,8 +44,11 @@ fn the_verdict_comes_first_and_the_points_behind_it() {
             assert_eq!((line.0, line.1.len()), (word, numbers));
             assert!(line.1.iter().all(|number| *number < morgana::P));
         }
+        assert_eq!(factors, format!("factors {}", 5 * points));
         let quiet = [&["compare", "sample", "flat", "--quiet"], option].concat();
-        folder.run(&quiet).answers(0, &format!("same\n{bound}\n"));
+        folder
+            .run(&quiet)
+            .answers(0, &format!("same\n{bound}\n{factors}\n"));
     }
 }
 
@@ -59,7 +63,7 @@ fn wide_keys_take_a_point_more() {
     let ran = folder.run(&["compare", "one", "two", "--quiet"]);
     ran.answers(
         0,
-        "same\nkeys that differ would pass with probability at most 6.1e-31 (m = 60, 4 points)\n",
+        "same\nkeys that differ would pass with probability at most 6.1e-31 (m = 60, 4 points)\nfactors 480\n",
     );
 }
 
@@ -88,7 +92,7 @@ fn a_key_of_one_cell_is_certain() {
     let folder = Folder::new("one", &[("once", &single(1)), ("twice", &single_in_two())]);
     folder.run(&["compare", "once", "twice"]).answers(
         0,
-        "same\nthe matrices have one place, and it was compared, so this is certain\nrows\ncolumns\n",
+        "same\nthe matrices have one place, and it was compared, so this is certain\nrows\ncolumns\nfactors 0\n",
     );
 }
 
@@ -100,9 +104,10 @@ fn the_first_point_that_differs_is_shown() {
         let verdict = format!("different\nat point 1 of {count}\n");
         folder
             .run(&arguments)
-            .answers(1, &(verdict.clone() + "rows\ncolumns\n"));
+            .answers(1, &format!("{verdict}rows\ncolumns\nfactors 0\n"));
         let quiet = [&arguments[..], &["--quiet"]].concat();
-        folder.run(&quiet).answers(1, &verdict);
+        let ran = folder.run(&quiet);
+        ran.answers(1, &format!("{verdict}factors 0\n"));
     }
 }
 
@@ -111,7 +116,7 @@ fn each_point_is_drawn_anew() {
     let folder = Folder::new("anew", &[("sample", &sample()), ("flat", &flat())]);
     for field in [&[][..], &["--quadratic"]] {
         let ran = folder.run(&[&["compare", "sample", "flat", "--points=7"], field].concat());
-        let lines: Vec<_> = ran.out.lines().skip(2).collect();
+        let lines: Vec<_> = ran.out.lines().skip(2).take(14).collect();
         // No two of 14 lines, and no two of the numbers, are the same but once in millions of runs.
         assert_eq!(
             lines.iter().collect::<BTreeSet<_>>().len(),
@@ -145,11 +150,8 @@ fn a_key_need_not_be_square() {
         );
         let ran = folder.run(&["compare", "one", "two", "--quiet"]);
         let m = rows + columns;
-        assert!(
-            ran.out.ends_with(&format!(" (m = {m}, 3 points)\n")),
-            "{}",
-            ran.out
-        );
+        let size = format!(" (m = {m}, 3 points)\nfactors {}\n", 3 * 3 * m);
+        assert!(ran.out.ends_with(&size), "{}", ran.out);
         let json = folder
             .run(&["compare", "one", "two", "--quiet", "--json"])
             .out;

@@ -107,8 +107,9 @@ fn evaluate_has_an_object_for_each_point() {
     let start = "{\"command\":\"evaluate\",\"file\":\"sample\",\"status\":\"accepted\",";
     let wanted = [
         "\"field\":\"p\",\"rows\":[3],\"columns\":[4],\"arrays\":[[20,28,0],[2147483567,2147483535,0]],\
-         \"a\":2147483567,\"b\":2147483535,\"c\":0}\n",
-        "\"field\":\"p\",\"rows\":[0],\"columns\":[1],\"arrays\":[[5,7,0],[10,14,0]],\"a\":10,\"b\":14,\"c\":0}\n",
+         \"a\":2147483567,\"b\":2147483535,\"c\":0,\"factors\":3}\n",
+        "\"field\":\"p\",\"rows\":[0],\"columns\":[1],\"arrays\":[[5,7,0],[10,14,0]],\"a\":10,\"b\":14,\"c\":0,\
+         \"factors\":3}\n",
     ]
     .map(|rest| format!("{start}{rest}"));
     folder
@@ -117,7 +118,7 @@ fn evaluate_has_an_object_for_each_point() {
     folder.write("point", b"rows 3 2\ncolumns 4 5\n");
     let wanted = "\"field\":\"p^2\",\"rows\":[3,2],\"columns\":[4,5],\
         \"arrays\":[[[20,25],[28,35],[0,0]],[[20,2147483467],[28,2147483395],[0,0]]],\
-        \"a\":[20,2147483467],\"b\":[28,2147483395],\"c\":[0,0]}\n";
+        \"a\":[20,2147483467],\"b\":[28,2147483395],\"c\":[0,0],\"factors\":3}\n";
     folder
         .run(&[
             "evaluate",
@@ -141,7 +142,9 @@ fn cell_has_an_object() {
     let start = "{\"command\":\"cell\",\"file\":\"sample\",\"status\":";
     folder.run(&["cell", "sample", "0", "1", "--json"]).answers(
         0,
-        &format!("{start}\"accepted\",\"row\":0,\"column\":1,\"a\":10,\"b\":14,\"c\":0}}\n"),
+        &format!(
+            "{start}\"accepted\",\"row\":0,\"column\":1,\"a\":10,\"b\":14,\"c\":0,\"factors\":3}}\n"
+        ),
     );
     folder.run(&["cell", "sample", "0", "2", "--json"]).answers(
         2,
@@ -221,14 +224,16 @@ fn compare_has_an_object_for_each_pair() {
             "flat",
             &["--quiet"],
             0,
-            "\"same\",\"certain\":false,\"identical\":false,\"field\":\"p\",\"m\":2,\"count\":3,\"bound\":8.1e-28}",
+            "\"same\",\"certain\":false,\"identical\":false,\"field\":\"p\",\"m\":2,\"count\":3,\"bound\":8.1e-28,\
+             \"factors\":15}",
         ),
         (
             "sample",
             "flat",
             &["--quiet", "--quadratic"],
             0,
-            "\"same\",\"certain\":false,\"identical\":false,\"field\":\"p^2\",\"m\":2,\"count\":2,\"bound\":1.9e-37}",
+            "\"same\",\"certain\":false,\"identical\":false,\"field\":\"p^2\",\"m\":2,\"count\":2,\"bound\":1.9e-37,\
+             \"factors\":10}",
         ),
         (
             "sample",
@@ -236,7 +241,7 @@ fn compare_has_an_object_for_each_pair() {
             &["--point", "point"],
             0,
             "\"same\",\"certain\":false,\"identical\":false,\"field\":\"p\",\"m\":2,\"count\":1,\
-             \"points_from\":\"point\",\"points\":[{\"rows\":[3],\"columns\":[4]}]}",
+             \"points_from\":\"point\",\"factors\":5,\"points\":[{\"rows\":[3],\"columns\":[4]}]}",
         ),
         (
             "single",
@@ -244,7 +249,7 @@ fn compare_has_an_object_for_each_pair() {
             &["--points=2"],
             1,
             "\"different\",\"certain\":true,\"point\":1,\"field\":\"p\",\"m\":0,\"count\":2,\
-             \"points\":[{\"rows\":[],\"columns\":[]}]}",
+             \"factors\":0,\"points\":[{\"rows\":[],\"columns\":[]}]}",
         ),
         (
             "single",

@@ -1,6 +1,7 @@
 //! Runs morgana on files of its own and wants what it prints and its exit status to be as given.
 
 mod comparisons;
+mod factors;
 mod failures;
 mod json;
 mod keys;

@@ -52,24 +52,27 @@ fn folders_are_compared_by_the_paths_in_them() {
     ];
     folder
         .run(&["compare", "old", "new"])
-        .answers(0, &same.concat());
+        .answers(0, &(same.concat() + "factors 30\n"));
     folder.write("old/d", &flat());
     folder.write("new/d", &other());
     let different = "different \"old/d\" \"new/d\"; at point 1 of 3\n";
-    let wanted = [&same[0], &same[1], different, &same[2]].concat();
+    let wanted = [&same[0], &same[1], different, &same[2], "factors 34\n"].concat();
     folder.run(&["compare", "old", "new"]).answers(1, &wanted);
     folder.write("new/deep/bad", b"\xff");
     folder.write("old/deep/bad", &sample());
     let refused =
         "refused 3 at 0: unknown kind; kind ff, and kinds are 01 to 08; new key \"new/deep/bad\"; \
          keys \"old/deep/bad\" \"new/deep/bad\"\n";
-    let wanted = [&same[0], &same[1], different, refused, &same[2]].concat();
+    let pairs = [&same[0], &same[1], different, refused, &same[2]].concat();
     folder.run(&["compare", "old/", "new"]).status(2);
-    folder.run(&["compare", "old", "new"]).answers(2, &wanted);
+    folder
+        .run(&["compare", "old", "new"])
+        .answers(2, &[&pairs, "factors 34\n"].concat());
     folder.write("new/only", &sample());
     let failed = "failed \"old/only\" \"new/only\"; cannot read \"old/only\": No such file or directory (os error 2)\n";
-    let wanted = [&wanted, failed].concat();
-    folder.run(&["compare", "old", "new"]).answers(3, &wanted);
+    folder
+        .run(&["compare", "old", "new"])
+        .answers(3, &[&pairs, failed, "factors 34\n"].concat());
 }
 
 #[test]
@@ -102,7 +105,7 @@ fn a_list_has_a_pair_on_each_line() {
         "same \"sample\" \"flat key\"; {BOUND}\n\
          same \"sample\" \"sample\"; certain, identical files\n\
          refused 35 at 0: shapes differ; old key \"single\" has row bits 0 and column bits 0, \
-         new key \"sample\" row bits 1 and column bits 1\n"
+         new key \"sample\" row bits 1 and column bits 1\nfactors 15\n"
     );
     folder.write("list", list);
     folder
@@ -141,7 +144,7 @@ fn points_are_read_once_for_all_pairs() {
         .answers(
             0,
             "same \"sample\" \"flat\"; no bound, 1 point of standard input\n\
-             same \"flat\" \"sample\"; no bound, 1 point of standard input\n",
+             same \"flat\" \"sample\"; no bound, 1 point of standard input\nfactors 10\n",
         );
     folder
         .run_on(&["compare", "--pairs", "list", "--point", "-"], b"")
@@ -159,11 +162,11 @@ fn pairs_of_one_place_are_certain() {
         ],
     );
     let run = |options: &[&str]| folder.run(&[&["compare", "--pairs", "list"], options].concat());
-    run(&[]).answers(0, "same \"once\" \"sum\"; certain, one place\n");
+    run(&[]).answers(0, "same \"once\" \"sum\"; certain, one place\nfactors 0\n");
     run(&["--json", "--quiet"]).answers(
         0,
         "{\"command\":\"compare\",\"old\":\"once\",\"new\":\"sum\",\"status\":\"same\",\
-         \"certain\":true,\"identical\":false,\"field\":\"p\",\"m\":0,\"count\":1}\n",
+         \"certain\":true,\"identical\":false,\"field\":\"p\",\"m\":0,\"count\":1,\"factors\":0}\n",
     );
 }
 
@@ -243,18 +246,18 @@ fn folders_take_the_options_and_every_file() {
     let same = |name: &str| {
         format!("same \"old/{name}\" \"new/{name}\"; no bound, 1 point of \"points\"\n")
     };
-    run(&["--point=points"]).answers(0, &(same(".hidden") + &same("a")));
+    run(&["--point=points"]).answers(0, &(same(".hidden") + &same("a") + "factors 8\n"));
     let ran = folder.run_on(&["compare", "old", "new", "--point=-"], point);
     let input = |name: &str| {
         format!("same \"old/{name}\" \"new/{name}\"; no bound, 1 point of standard input\n")
     };
-    ran.answers(0, &(input(".hidden") + &input("a")));
+    ran.answers(0, &(input(".hidden") + &input("a") + "factors 8\n"));
     folder.write("new/a", &sample());
     folder.write("new/.hidden", &flat());
     let wanted = "same \"old/.hidden\" \"new/.hidden\"; certain, identical files\n\
         same \"old/a\" \"new/a\"; bound 1.9e-37 (q = p², m = 2, 2 points)\n";
-    run(&["--quadratic"]).answers(0, wanted);
+    run(&["--quadratic"]).answers(0, &format!("{wanted}factors 10\n"));
     folder.write("old/only", &flat());
     let failed = "failed \"old/only\" \"new/only\"; cannot read \"new/only\": No such file or directory (os error 2)\n";
-    run(&["--quadratic"]).answers(3, &(wanted.to_owned() + failed));
+    run(&["--quadratic"]).answers(3, &format!("{wanted}{failed}factors 10\n"));
 }

@@ -407,7 +407,7 @@ fn what_is_answered_before_a_refused_point_is_printed() {
         2,
         "rows 0\ncolumns 1\n0 5 7 0\n1 10 14 0\nA 10 B 14 C 0\n\
          refused 22 at 0: column count not n', or not 2n' over p²; 0 given, 1 wanted; point 2 of \"two\"; \
-         key \"sample\"\n",
+         key \"sample\"\nfactors 3\n",
     );
     let ran = folder.run(&["evaluate", "sample", "--point=two", "--json"]);
     ran.status(2);

@@ -59,13 +59,16 @@ fn a_mark_of_utf8_is_no_part_of_a_file() {
         .run(&["compare", "--pairs=list", "--point=point"])
         .answers(
             0,
-            "same \"sample\" \"flat\"; no bound, 1 point of \"point\"\n",
+            "same \"sample\" \"flat\"; no bound, 1 point of \"point\"\nfactors 5\n",
         );
 }
 
-/// The lines of the points in compare's output: those behind the verdict and its reason.
+/// The lines of the points in compare's output: those behind the verdict and its reason, and before the factors.
 fn points(out: &str) -> Vec<&str> {
-    out.lines().skip(2).collect()
+    let lines = out.lines().skip(2);
+    lines
+        .take_while(|line| !line.starts_with("factors"))
+        .collect()
 }
 
 #[test]
@@ -127,7 +130,7 @@ fn points_of_a_file_have_no_bound_but_may_be_certain() {
         .run(&["compare", "once", "sum", "--point=point", "--quiet"])
         .answers(
             0,
-            "same\nthe matrices have one place, and it was compared, so this is certain\n",
+            "same\nthe matrices have one place, and it was compared, so this is certain\nfactors 0\n",
         );
 }
 
@@ -143,11 +146,14 @@ fn the_points_before_one_that_differs_are_left_out() {
         let keys = ["compare", "flat", "other", "--point", "points"];
         folder.run(&[&keys[..], options].concat())
     };
-    run(&[]).answers(1, "different\nat point 2 of 3\nrows 3\ncolumns 4\n");
-    run(&["--quiet"]).answers(1, "different\nat point 2 of 3\n");
+    run(&[]).answers(
+        1,
+        "different\nat point 2 of 3\nrows 3\ncolumns 4\nfactors 8\n",
+    );
+    run(&["--quiet"]).answers(1, "different\nat point 2 of 3\nfactors 8\n");
     let json = run(&["--json"]);
     let wanted = "\"point\":2,\"field\":\"p\",\"m\":2,\"count\":3,\"points_from\":\"points\",\
-        \"points\":[{\"rows\":[3],\"columns\":[4]}]}\n";
+        \"factors\":8,\"points\":[{\"rows\":[3],\"columns\":[4]}]}\n";
     assert!(json.out.ends_with(wanted), "{}", json.out);
     folder.write("points", b"rows 1\ncolumns 5\n");
     let ran = run(&[]);
@@ -168,12 +174,18 @@ fn a_later_point_may_show_the_difference() {
     folder.write("points", points.as_bytes());
     folder.write("list", b"flat other\n");
     let run = |rest: &[&str]| folder.run(&[&["compare", "--point=points"], rest].concat());
-    run(&["flat", "other"]).answers(1, "different\nat point 3 of 4\nrows 3\ncolumns 4\n");
-    run(&["--pairs=list"]).answers(1, "different \"flat\" \"other\"; at point 3 of 4\n");
+    run(&["flat", "other"]).answers(
+        1,
+        "different\nat point 3 of 4\nrows 3\ncolumns 4\nfactors 12\n",
+    );
+    run(&["--pairs=list"]).answers(
+        1,
+        "different \"flat\" \"other\"; at point 3 of 4\nfactors 12\n",
+    );
     folder.write("points", &points.as_bytes()[..points.len() / 2]);
     run(&["--pairs=list"]).answers(
         0,
-        "same \"flat\" \"other\"; no bound, 2 points of \"points\"\n",
+        "same \"flat\" \"other\"; no bound, 2 points of \"points\"\nfactors 8\n",
     );
     folder.write("points", b"rows 1\ncolumns 5\nrows\ncolumns\n");
     run(&["flat", "other"]).answers(

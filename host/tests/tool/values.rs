@@ -13,11 +13,11 @@ fn evaluate_prints_the_point_and_every_array() {
         "rows 3\ncolumns 4\n0 20 28 0\n1 2147483567 2147483535 0\nA 2147483567 B 2147483535 C 0\n";
     folder
         .run(&["evaluate", "sample", "--point", "point"])
-        .answers(0, wanted);
+        .answers(0, &format!("{wanted}factors 3\n"));
     folder.write("twice", b"rows 3\ncolumns 4\n\nrows 3\ncolumns 4\n");
     folder
         .run(&["evaluate", "sample", "--point=twice"])
-        .answers(0, &wanted.repeat(2));
+        .answers(0, &format!("{wanted}{wanted}factors 6\n"));
 }
 
 #[test]
@@ -36,12 +36,12 @@ fn evaluate_prints_both_parts() {
             "rows 0 1\ncolumns 2147483646 2147483646\n\
              0 2147483642 2147483642 2147483640 2147483640 0 0\n\
              1 2147483627 0 2147483619 0 0 0\n\
-             A 2147483627 0 B 2147483619 0 C 0 0\n",
+             A 2147483627 0 B 2147483619 0 C 0 0\nfactors 3\n",
         ),
         (
             "old",
             "rows 3 0\ncolumns 4 0\n0 20 0 28 0 0 0\n1 2147483567 0 2147483535 0 0 0\n\
-             A 2147483567 0 B 2147483535 0 C 0 0\n",
+             A 2147483567 0 B 2147483535 0 C 0 0\nfactors 3\n",
         ),
     ] {
         folder
@@ -54,8 +54,8 @@ fn evaluate_prints_both_parts() {
 fn cell_prints_the_values() {
     let folder = Folder::new("cell", &[("sample", &sample())]);
     for (row, column, status, wanted) in [
-        ("0", "1", 0, "A 10 B 14 C 0\n"),
-        ("1", "1", 0, "A 0 B 0 C 0\n"),
+        ("0", "1", 0, "A 10 B 14 C 0\nfactors 3\n"),
+        ("1", "1", 0, "A 0 B 0 C 0\nfactors 3\n"),
         (
             "2",
             "9",
@@ -86,7 +86,8 @@ fn a_factor_multiplies_what_is_called() {
         (0, 5, "A 25 B 35 C 0\n", "1 2147483447 2147483367 0\n"),
     ] {
         folder.write("key", &scaled(first, second));
-        folder.run(&["cell", "key", "0", "1"]).answers(0, cell);
+        let ran = folder.run(&["cell", "key", "0", "1"]);
+        ran.answers(0, &format!("{cell}factors 3\n"));
         let ran = folder.run(&["evaluate", "key", "--point=point"]);
         assert!(ran.out.contains("\n0 20 28 0\n"), "{}", ran.out);
         assert!(ran.out.contains(array), "{}", ran.out);
@@ -115,7 +116,8 @@ fn a_key_may_come_from_standard_input() {
         "refused 2 at 0: record missing or cut off; the key has 0 bytes and no end; key standard input\n",
     );
     let ran = folder.run_on(&["evaluate", "sample", "--point=-"], b"rows 0\ncolumns 1\n");
-    assert!(ran.out.ends_with("\nA 10 B 14 C 0\n"), "{}", ran.out);
+    let last = "\nA 10 B 14 C 0\nfactors 3\n";
+    assert!(ran.out.ends_with(last), "{}", ran.out);
 }
 
 #[test]

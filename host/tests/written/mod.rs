@@ -5,9 +5,11 @@
 
 pub mod closed;
 
-use crate::archive;
+use crate::archive::{self, Served};
+use crate::independent::field::{Fp, Quadratic};
+use crate::independent::key;
 use crate::independent::record::{bytes, Call, Cell, Record};
-use crate::independent::{CompareRefusal, Counts, Refusal};
+use crate::independent::{CompareRefusal, Compared, Counts, Evaluated, Refusal};
 
 /// The prime p.
 pub const P: u32 = morgana::P;
@@ -92,19 +94,17 @@ pub fn refuses(key: &[u8], number: u32, place: u64) {
     );
     let mut sheet = [7; 12];
     assert_eq!(evaluate(key, &[P], &[], &mut sheet), Err(refusal));
-    let got = archive::cell(key, u32::MAX, u32::MAX, &mut sheet);
+    let got = cell_of(key, u32::MAX, u32::MAX, &mut sheet);
     assert_eq!(got, Err(refusal));
     let of = |key| Err(CompareRefusal { key, refusal });
     let sample = sample();
-    let got = archive::compare(key, &sample, &[], &[P], &mut sheet);
-    assert_eq!(got, of(1));
-    let got = archive::compare(&sample, key, &[], &[P], &mut sheet);
-    assert_eq!(got, of(2));
-    let got = archive::evaluate_quadratic(key, &[P], &[], &mut sheet);
+    assert_eq!(compare(key, &sample, &[], &[P], &mut sheet), of(1));
+    assert_eq!(compare(&sample, key, &[], &[P], &mut sheet), of(2));
+    let got = evaluate_quadratic(key, &[P], &[], &mut sheet);
     assert_eq!(got, Err(refusal));
-    let got = archive::compare_quadratic(key, &sample, &[], &[P], &mut sheet);
+    let got = compare_quadratic(key, &sample, &[], &[P], &mut sheet);
     assert_eq!(got, of(1));
-    let got = archive::compare_quadratic(&sample, key, &[], &[P], &mut sheet);
+    let got = compare_quadratic(&sample, key, &[], &[P], &mut sheet);
     assert_eq!(got, of(2));
     assert_eq!(sheet, [7; 12]);
     for length in [0, 99] {
@@ -124,19 +124,51 @@ pub fn moved(key: &[u8], buffer: &mut [u8]) -> Result<usize, Refusal> {
     answer
 }
 
-/// What evaluate answers, held through the raw call too.
+/// The values that evaluate answers, held through the raw call too.
 pub fn evaluate(
     key: &[u8],
     rows: &[u32],
     columns: &[u32],
     sheet: &mut [u32],
-) -> Result<[u32; 3], Refusal> {
+) -> Result<[Fp; 3], Refusal> {
+    evaluate_over(key, rows, columns, sheet)
+}
+
+/// The values that evaluate answers over p², held through the raw call too.
+pub fn evaluate_quadratic(
+    key: &[u8],
+    rows: &[u32],
+    columns: &[u32],
+    sheet: &mut [u32],
+) -> Result<[Quadratic; 3], Refusal> {
+    evaluate_over(key, rows, columns, sheet)
+}
+
+/// The same over any field.
+fn evaluate_over<F: Served>(
+    key: &[u8],
+    rows: &[u32],
+    columns: &[u32],
+    sheet: &mut [u32],
+) -> Result<[F; 3], Refusal> {
     let mut other = sheet.to_vec();
-    let answer = archive::evaluate(key, rows, columns, sheet);
-    let reply = archive::raw_evaluate(key, rows, columns, &mut other);
-    assert_eq!(reply, archive::evaluate_reply(answer));
+    let answer = F::evaluate(key, rows, columns, sheet);
+    let reply = F::raw_evaluate(key, rows, columns, &mut other);
+    assert_eq!(reply, F::reply(answer));
     assert_eq!(sheet, other);
-    answer
+    counted(key, answer)
+}
+
+/// The values of an answer about a key, whose count of factors must be that of the key's records.
+fn counted<F>(key: &[u8], answer: Result<Evaluated<F>, Refusal>) -> Result<[F; 3], Refusal> {
+    let Evaluated { values, factors } = answer?;
+    assert_eq!(factors, factors_of(key));
+    Ok(values)
+}
+
+/// The count of factors of an accepted key, by its records.
+fn factors_of(key: &[u8]) -> u64 {
+    key::factors(&key::read(key).expect("the key is accepted"))
 }
 
 /// What evaluate answers on a sheet that is long enough.
@@ -144,18 +176,22 @@ pub fn values(key: &[u8], rows: &[u32], columns: &[u32]) -> Result<[u32; 3], Ref
     evaluate(key, rows, columns, &mut [9; 3 * 1_024])
 }
 
-/// What cell answers on a sheet that is long enough, held through the raw call too.
-pub fn dense(key: &[u8], row: u32, column: u32) -> Result<[u32; 3], Refusal> {
-    let mut sheet = [9; 3 * 1_024];
-    let mut other = sheet;
-    let answer = archive::cell(key, row, column, &mut sheet);
+/// The values that cell answers, held through the raw call too.
+pub fn cell_of(key: &[u8], row: u32, column: u32, sheet: &mut [u32]) -> Result<[u32; 3], Refusal> {
+    let mut other = sheet.to_vec();
+    let answer = archive::cell(key, row, column, sheet);
     let reply = archive::raw_cell(key, row, column, &mut other);
     assert_eq!(reply, archive::evaluate_reply(answer));
     assert_eq!(sheet, other);
-    answer
+    counted(key, answer)
 }
 
-/// What compare answers, held through the raw call too.
+/// The values that cell answers on a sheet that is long enough.
+pub fn dense(key: &[u8], row: u32, column: u32) -> Result<[u32; 3], Refusal> {
+    cell_of(key, row, column, &mut [9; 3 * 1_024])
+}
+
+/// Whether compare answers "same", held through the raw call too.
 pub fn compare(
     first: &[u8],
     second: &[u8],
@@ -163,12 +199,44 @@ pub fn compare(
     columns: &[u32],
     sheet: &mut [u32],
 ) -> Result<bool, CompareRefusal> {
+    compare_over::<Fp>(first, second, rows, columns, sheet)
+}
+
+/// Whether compare answers "same" over p², held through the raw call too.
+pub fn compare_quadratic(
+    first: &[u8],
+    second: &[u8],
+    rows: &[u32],
+    columns: &[u32],
+    sheet: &mut [u32],
+) -> Result<bool, CompareRefusal> {
+    compare_over::<Quadratic>(first, second, rows, columns, sheet)
+}
+
+/// The same over any field.
+fn compare_over<F: Served>(
+    first: &[u8],
+    second: &[u8],
+    rows: &[u32],
+    columns: &[u32],
+    sheet: &mut [u32],
+) -> Result<bool, CompareRefusal> {
     let mut other = sheet.to_vec();
-    let answer = archive::compare(first, second, rows, columns, sheet);
-    let reply = archive::raw_compare(first, second, rows, columns, &mut other);
+    let answer = F::compare(first, second, rows, columns, sheet);
+    let reply = F::raw_compare(first, second, rows, columns, &mut other);
     assert_eq!(reply, archive::compare_reply(answer));
     assert_eq!(sheet, other);
-    answer
+    counted_in_both([first, second], answer)
+}
+
+/// Whether an answer about two keys is "same"; its count of factors must be that of both keys' records.
+fn counted_in_both(
+    keys: [&[u8]; 2],
+    answer: Result<Compared, CompareRefusal>,
+) -> Result<bool, CompareRefusal> {
+    let Compared { same, factors } = answer?;
+    assert_eq!(factors, keys.map(factors_of).iter().sum());
+    Ok(same)
 }
 
 /// The refusal with a number, at a place.

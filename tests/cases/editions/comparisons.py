@@ -9,7 +9,7 @@ from tests.model.words import times, words
 from ..comparisons import both_ways
 from ..counts import SHAPES, Values, bound, unweighed
 from ..keys import CIRCUIT, EMPTY, keyed, of_cells, scaled
-from ..towers import drawn_levels, scaled_tower, shapes, tower, tower_values
+from ..towers import drawn_levels, scaled_tower, scaled_tower_factors, shapes, tower, tower_factors, tower_values
 
 # A part of two row bits and one column bit, which calls place.
 PART = "sparse 1 1, cell 0 1 3 5 7, cell 1 0 11 13 17"
@@ -71,8 +71,8 @@ def tower_cases(cases, draw):
             (tower(values, levels), scaled_tower(values, changed), changed, "different"),
         ):
             known = [tower_values(values, each, point) for each in (levels, of_second)]
-            sheet = [TOP] * 3 * (count + 1) + [1, 2]
-            cases.compare(first, second, *point, wanted, sheet, known, count < 10)
+            sheet, factors = [TOP] * 3 * (count + 1) + [1, 2], tower_factors(levels) + scaled_tower_factors(levels)
+            cases.compare(first, second, *point, wanted, sheet, known, count < 10, factors)
 
 
 def count_cases(cases, draw):

@@ -8,7 +8,7 @@ from tests.model.fields import P, TOP
 from tests.model.words import times, words
 
 from ..keys import NESTED, PATTERNS, pair, scaled
-from ..towers import drawn_levels, scaled_tower, shapes, tower_values
+from ..towers import drawn_levels, scaled_tower, scaled_tower_factors, shapes, tower_values
 
 FACTORS = (0, 1, 2, 3, 2**16, 2**30, P // 2, P - 2, P - 1)
 VALUES = (3, 5, P - 1)
@@ -93,9 +93,10 @@ def tower_cases(cases, draw):
         text, bits = scaled_tower(values, levels), shapes(levels)[-1]
         point, place = drawn_point(draw, bits), drawn_place(draw, bits)
         sheet, name = [TOP] * 3 * (count + 1) + [1, 2], f"a tower of {count} levels with factors" if count > 120 else None
-        cases.evaluate(text, *point, tower_values(values, levels, point), sheet, count < 10, name)
+        factors = scaled_tower_factors(levels)
+        cases.evaluate(text, *point, tower_values(values, levels, point), sheet, count < 10, name, factors)
         known = tower_values(values, levels, tuple(map(bits_of, place, bits)))
-        cases.cell(text, *place, known, sheet, count < 10, name)
+        cases.cell(text, *place, known, sheet, count < 10, name, factors)
 
 
 def evaluation_cases(cases, draw):

@@ -10,7 +10,7 @@ from ..comparisons import both_ways
 from ..keys import CIRCUIT, EMPTY, keyed, pair
 from ..quadratic import comparisons, evaluations
 from ..quadratic.shared import BOTH, GREATEST, I, MINUS_I, UNIT, ZERO, Quadratics, point_of
-from ..towers import drawn_levels, scaled_tower, shapes, tower, tower_values
+from ..towers import drawn_levels, scaled_tower, scaled_tower_factors, shapes, tower, tower_factors, tower_values
 from .comparisons import called, repeated
 from .evaluations import FACTORS
 from .shared import InEditionTwo
@@ -57,13 +57,15 @@ def tower_cases(cases, draw):
     for count in (3, 9, 40, 120):
         levels = drawn_levels(draw, count, P - 1)
         point = point_of(draw, shapes(levels)[-1])
-        wanted = tower_values(values, levels, point, QUADRATIC)
-        cases.evaluate(scaled_tower(values, levels), *point, wanted, [TOP] * 6 * len(wanted) + [1, 2], count < 10)
+        wanted, factors = tower_values(values, levels, point, QUADRATIC), scaled_tower_factors(levels)
+        sheet = [TOP] * 6 * len(wanted) + [1, 2]
+        cases.evaluate(scaled_tower(values, levels), *point, wanted, sheet, count < 10, factors=factors)
     levels = drawn_levels(draw, 40, 3)
     point = point_of(draw, shapes(levels)[-1])
     known = [tower_values(values, levels, point, QUADRATIC)] * 2
     keys = tower(values, levels), scaled_tower(values, levels)
-    cases.compare(*keys, *point, "same", [TOP] * 6 * 41 + [1, 2], known, False)
+    factors = tower_factors(levels) + scaled_tower_factors(levels)
+    cases.compare(*keys, *point, "same", [TOP] * 6 * 41 + [1, 2], known, False, factors)
 
 
 def edition_cases(cases, draw):

@@ -53,17 +53,17 @@ class InEditionTwo:
         if fits(text):
             self.cases.check(scaled(text), moved_refusal(wanted, text))
 
-    def evaluate(self, text, rows, columns, wanted=None, sheet=None, unroll=True, name=None):
+    def evaluate(self, text, rows, columns, wanted=None, sheet=None, unroll=True, name=None, factors=None):
         """An evaluation."""
         if fits(text):
             name, wanted = name and f"{name} in edition 2", moved_refusal(wanted, text)
-            self.cases.evaluate(scaled(text), rows, columns, wanted, sheet, unroll, name)
+            self.cases.evaluate(scaled(text), rows, columns, wanted, sheet, unroll, name, factors)
 
-    def cell(self, text, row, column, wanted=None, sheet=None, unroll=True, name=None):
+    def cell(self, text, row, column, wanted=None, sheet=None, unroll=True, name=None, factors=None):
         """A cell."""
         if fits(text):
             name, wanted = name and f"{name} in edition 2", moved_refusal(wanted, text)
-            self.cases.cell(scaled(text), row, column, wanted, sheet, unroll, name)
+            self.cases.cell(scaled(text), row, column, wanted, sheet, unroll, name, factors)
 
     def compare(self, first, second, rows, columns, wanted=None, *others, **named):
         """A comparison: of both keys in edition 2, and of one in each."""

@@ -9,7 +9,7 @@ from tests.model.keys import read
 from tests.model.words import byte_words, key, times, words
 
 from ..keys import NESTED, PATTERNS, SAMPLE, pair, single
-from ..towers import drawn_levels, shapes, tower, tower_values
+from ..towers import drawn_levels, shapes, tower, tower_factors, tower_values
 from .shared import BOTH, GREATEST, I, MINUS_I, UNIT, ZERO, doubled, point_of
 
 
@@ -89,5 +89,6 @@ def tower_cases(cases, draw):
     for count in (0, 3, 9, 40, 120):
         levels = drawn_levels(draw, count, 3)
         point = point_of(draw, shapes(levels)[-1])
-        wanted = tower_values(values, levels, point, QUADRATIC)
-        cases.evaluate(tower(values, levels), *point, wanted, [TOP] * 6 * len(wanted) + [1, 2], count < 10)
+        wanted, factors = tower_values(values, levels, point, QUADRATIC), tower_factors(levels)
+        sheet = [TOP] * 6 * len(wanted) + [1, 2]
+        cases.evaluate(tower(values, levels), *point, wanted, sheet, count < 10, factors=factors)

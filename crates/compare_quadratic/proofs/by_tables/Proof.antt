@@ -70,7 +70,7 @@ same-length c = search needs
 
 returns : tie.Need-returns
 returns c =
-    promised quadratic _ _ _ _ _ _ _
+    promised quadratic _ _ _ _ _ _ _ _
     (first-refused quadratic _ _ _ _ _ _ _
     (sym (c .before .before .before .before .before .index .ensures .0) ∙ ap checkedOutcome (c .before .refusal .given .1)))
 
@@ -91,7 +91,7 @@ same-length-3 c = search needs
 
 returns-2 : tie.Need-returns-2
 returns-2 c =
-    promised quadratic _ _ _ _ _ _ _
+    promised quadratic _ _ _ _ _ _ _ _
     (second-refused quadratic _ _ _ _ _ _ (first-accepted (c .before .before .before .before .before .before .before .before)) _ _
     (sym (c .before .before .before .before .before .index2 .ensures .0) ∙ ap checkedOutcome (c .before .refusal2 .given .1)))
 
@@ -113,7 +113,7 @@ same-length-5 c = search needs
 returns-3 : tie.Need-returns-3
 returns-3 c =
     let keys = c .before .before .before .before .before in
-    promised quadratic _ _ _ _ _ _ _
+    promised quadratic _ _ _ _ _ _ _ _
     (neither-refused quadratic _ _ _ _ _ _ (first-accepted (firstly keys)) _ (second-accepted keys) _ _
     (sym (c .before .before .before .pair .ensures) ∙ ap checkedOutcome (c .before .refusal3 .given .1)))
 
@@ -153,9 +153,9 @@ same-length-8 c = counted (c .before .before .before .before .before .before) .b
 returns-4 : tie.Need-returns-4
 returns-4 c =
     let told = c .before .before .before .before .before .before in
-    promised quadratic _ _ _ _ _ _ _
-    (both-passed quadratic _ _ _ _ _ _ _ _ (first-accepted (firstly (counted told))) (second-accepted (counted told)) (admitted-at told) _ _
-    (c .before .before .run .ensures .0) (c .before .before .run .ensures .1))
+    promised quadratic _ _ _ _ _ _ _ _
+    (both-passed quadratic _ _ _ _ _ _ _ _ (first-accepted (firstly (counted told))) (second-accepted (counted told)) (admitted-at told) _ _ _
+    (c .before .before .run .ensures .0) (c .before .before .run .ensures .1 .0) (c .before .before .run .ensures .1 .1))
 
 pub by-tables-spec : {M : Type 1} → statement M
 by-tables-spec =

@@ -1,6 +1,7 @@
 -- `compare_quadratic::compare` meets its contract: the tables have places for all arrays of short keys, or of any.
 use Rattle.compare_quadratic.proofs.Agreement.{quadratic-agreement}
 use borrow.Author.Needs.{needs}
+use Rattle.comparison.proofs.CompareCases.{both-limited}
 use Rattle.compare_quadratic.proofs.compare.Statement.{statement}
 use Rattle.compare_quadratic.proofs.compare.Tie as tie
 
@@ -19,7 +20,7 @@ same-length c = search needs
 returns : tie.Need-returns
 returns c =
     let e = c .before .before .before .before .by-tables .ensures in
-    (e .0, (e .1, quadratic-agreement _ _))
+    (e .0, (e .1 .0, (e .1 .1, (quadratic-agreement _ _, both-limited _ _))))
 
 slice-aggregate-by-tables-3 : tie.Need-slice-aggregate-by-tables-3
 slice-aggregate-by-tables-3 c = search needs
@@ -36,7 +37,7 @@ same-length-2 c = search needs
 returns-2 : tie.Need-returns-2
 returns-2 c =
     let e = c .before .before .before .before .by-tables2 .ensures in
-    (e .0, (e .1, quadratic-agreement _ _))
+    (e .0, (e .1 .0, (e .1 .1, (quadratic-agreement _ _, both-limited _ _))))
 
 pub compare-spec : {M : Type 1} → statement M
 compare-spec =

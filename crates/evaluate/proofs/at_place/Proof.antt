@@ -100,7 +100,7 @@ last-requires c κs =
     let known = known-at (placed .before .before .before .before .before .before) in
     last-filled prime prime-lawful _ _ _
     (place-point _ _ (known .0) _ _ _ _ (placed .before .before .before .bits .ensures) (placed .bits2 .ensures)) _
-    (arrays-counted _ _ (known .0)) _ _ (known .2) (ran .run .ensures)
+    (arrays-counted _ _ (known .0)) _ _ (known .2) (ran .run .ensures .1)
 
 same-length : tie.Need-same-length
 same-length c = search needs
@@ -123,11 +123,12 @@ returns-2 c =
     let rows = placed .before .before .before .bits .ensures in
     let columns = placed .bits2 .ensures in
     let call = judged .before .before in
-    given-promise prime _ _ _ (now (start (call .before) .args .sheet)) _ (admitted-at call) _ _ _ (judged .judged2 .given .1) _ _
+    given-promise prime _ _ _ (now (start (call .before) .args .sheet)) _ (admitted-at call) _ _ _ (judged .judged2 .given .1) _ _ _
     (place-values _ _ (known .0) _ _ _ _ rows columns (known .1) _
     (last-extended prime prime-lawful _ _ _ (place-point _ _ (known .0) _ _ _ _ rows columns) _ (arrays-counted _ _ (known .0)) _ _ (known .2)
-    (ran .run .ensures) _ (c .last .ensures)))
-    (place-sheet _ _ (known .0) _ _ _ _ rows columns _ _ (ran .run .ensures))
+    (ran .run .ensures .1) _ (c .last .ensures)))
+    (ran .run .ensures .0)
+    (place-sheet _ _ (known .0) _ _ _ _ rows columns _ _ (ran .run .ensures .1))
 
 pub at-place-spec : {M : Type 1} → statement M
 at-place-spec =

@@ -82,7 +82,7 @@ last-requires c κs =
     let ran = c .before .before .before in
     let known = known-at (ran .before .before .before .before) in
     last-filled prime prime-lawful _ _ _ (at-point prime prime-lawful _ _ _ _ (known .0) (known .1)) _ (arrays-counted _ _ (known .0)) _ _ (known .2)
-    (ran .run .ensures)
+    (ran .run .ensures .1)
 
 same-length : tie.Need-same-length
 same-length c = search needs
@@ -102,10 +102,11 @@ returns-2 c =
     let judged = ran .before .before .before .before in
     let known = known-at judged in
     let call = judged .before .before in
-    given-promise prime _ _ _ (now (start (call .before) .args .sheet)) _ (admitted-at call) _ _ _ (judged .judged2 .given .1) _ _
+    given-promise prime _ _ _ (now (start (call .before) .args .sheet)) _ (admitted-at call) _ _ _ (judged .judged2 .given .1) _ _ _
     (last-extended prime prime-lawful _ _ _ (at-point prime prime-lawful _ _ _ _ (known .0) (known .1)) _ (arrays-counted _ _ (known .0)) _ _ (known .2)
-    (ran .run .ensures) _ (c .last .ensures))
-    (ran .run .ensures)
+    (ran .run .ensures .1) _ (c .last .ensures))
+    (ran .run .ensures .0)
+    (ran .run .ensures .1)
 
 pub at-point-spec : {M : Type 1} → statement M
 at-point-spec =

@@ -1,5 +1,5 @@
 -- `morgana::morgana_compare` meets its contract: the reply to what compare answers, and the sheet that it leaves.
-use mathlib.Core.Path.{ap, _∙_}
+use mathlib.Core.Path.{ap₂, _∙_}
 use borrow.Author.Needs.{needs}
 use Rattle.morgana.specs.Reply.{compareReply}
 use Rattle.morgana.proofs.morgana_compare.Statement.{statement}
@@ -17,7 +17,7 @@ same-length c = search needs
 returns : tie.Need-returns
 returns c =
     let answered = c .before .before .before .compare .ensures in
-    (c .of-compared .ensures ∙ ap compareReply (answered .0), answered .1)
+    (c .of-compared .ensures ∙ ap₂ compareReply (answered .0) (answered .1 .0), answered .1 .1)
 
 pub morgana-compare-spec : {M : Type 1} → statement M
 morgana-compare-spec =

@@ -97,7 +97,7 @@ returns-3 c =
     let line = c .before .before .before .before .before .before .before in
     let told = valued line in
     let answered = evaluated told .evaluate .ensures in
-    rw (evaluate-given _ _ _ _ (accepted (counted (evaluated told))) _ _ _ (answered .0) (answered .1) (told .enum-told .given .1))
+    rw (evaluate-given _ _ _ _ (accepted (counted (evaluated told))) _ _ _ _ (answered .0) (answered .1 .0) (told .enum-told .given .1))
     (wrote-more _ _ _ _ _ _ _ _ (line .key .ensures .0) (c .before .before .arrays .ensures))
 
 pub evaluated-spec : {M : Type 1} → statement M

@@ -1,6 +1,6 @@
 -- `weights::eq` meets its contract: one factor a turn.
 use Prim.Native.Nat.{_-_, _<_}
-use mathlib.Core.Path.{ap₂, _∙_}
+use mathlib.Core.Path.{refl, ap₂, _∙_}
 use native.Mathlib.Omega.{arith}
 use denote.Ref.{now}
 use lib.ListN.{length, getD}
@@ -81,7 +81,7 @@ loop-again c =
     ∙ ap₂ (eqFactor fp) (c .before .before .before .before .new .ensures) (c .before .before .new2 .ensures)))
 
 returns : tie.Need-returns Inv-loop μ-loop
-returns c = multiplying-done fp fp-ring _ _ _ _ (c .before .loop .inv) (omega arith)
+returns c = (multiplying-done fp fp-ring _ _ _ _ (c .before .loop .inv) (omega arith), refl)
 
 pub eq-spec : {M : Type 1} → statement M
 eq-spec =

@@ -87,7 +87,8 @@ loop-again c =
 returns : tie.Need-returns Inv-loop μ-loop
 returns c =
     let t = c .before in
-    multiplying-done fp2 fp2-ring _ _ _ _ (t .loop .inv) (omega (arith, c .loop-test .left, two-count (now (start t .args .x))))
+    let count = two-count (now (start t .args .x)) in
+    (multiplying-done fp2 fp2-ring _ _ _ _ (t .loop .inv) (omega (arith, c .loop-test .left, count)), sym count)
 
 pub eq-spec : {M : Type 1} → statement M
 eq-spec =

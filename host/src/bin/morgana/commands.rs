@@ -77,16 +77,20 @@ fn evaluate_at(
     let mut sheet = [0; SHEET_QUADRATIC];
     let (rows, columns) = (&point.rows, &point.columns);
     let answer = match field {
-        Field::Prime => morgana::evaluate(key, rows, columns, &mut sheet).map(drop),
-        Field::Quadratic => morgana::evaluate_quadratic(key, rows, columns, &mut sheet).map(drop),
+        Field::Prime => morgana::evaluate(key, rows, columns, &mut sheet).map(|it| it.factors),
+        Field::Quadratic => {
+            morgana::evaluate_quadratic(key, rows, columns, &mut sheet).map(|it| it.factors)
+        }
     };
-    if let Err(refusal) = answer {
-        return Err((refusal, point));
-    }
+    let factors = match answer {
+        Ok(factors) => factors,
+        Err(refusal) => return Err((refusal, point)),
+    };
     let triples = sheet.chunks_exact(3 * field.numbers());
     let arrays = triples.take(counts.arrays as usize).map(<[u32]>::to_vec);
     Ok(Evaluation {
         arrays: arrays.collect(),
+        factors,
         point,
     })
 }
@@ -100,7 +104,7 @@ pub fn cell(file: &Name, row: u32, column: u32) -> Result<Outcome, Failure> {
     };
     Ok(
         match morgana::cell(&key, row, column, &mut [0; SHEET_QUADRATIC]) {
-            Ok(evaluated) => Outcome::Celled(row, column, evaluated.values),
+            Ok(evaluated) => Outcome::Celled(row, column, evaluated),
             Err(refusal) => {
                 let (word, given, bits) = match refusal.place {
                     0 => ("row", row, counts.rows),

@@ -133,32 +133,33 @@ impl<'a> Trial<'a> {
         file: Option<&Name>,
         progress: &mut Progress,
     ) -> Result<Outcome, Failure> {
-        let (mut tried, mut used) = (0, Vec::new());
+        let (mut tried, mut factors, mut used) = (0, 0, Vec::new());
         for point in points {
             let point = point?;
             tried += 1;
             progress.at(tried, count);
-            let same = match self.compare_at(&point) {
-                Ok(compared) => compared.same,
+            let compared = match self.compare_at(&point) {
+                Ok(compared) => compared,
                 Err(refused) => return Ok(self.refused(refused, &point, tried, file)),
             };
-            if !same {
+            factors += compared.factors;
+            if !compared.same {
                 used.clear();
             }
             if !self.manner.quiet {
                 used.push(point);
             }
-            if !same {
-                let verdict = Verdict::Different(tried, self.tried(count, file));
+            if !compared.same {
+                let verdict = Verdict::Different(tried, self.tried(count, file, factors));
                 return Ok(Outcome::Compared(verdict, used));
             }
         }
-        let verdict = Verdict::Same(self.tried(tried, file));
+        let verdict = Verdict::Same(self.tried(tried, file, factors));
         Ok(Outcome::Compared(verdict, used))
     }
 
-    /// What so many points from a file, or drawn, say.
-    fn tried(&self, count: u32, file: Option<&Name>) -> Tried {
+    /// What so many points from a file, or drawn, say, and the factors of those that were tried.
+    fn tried(&self, count: u32, file: Option<&Name>, factors: u64) -> Tried {
         let (field, m) = (self.manner.field, self.m());
         let source = match file {
             Some(file) => Source::File(file.clone()),
@@ -169,6 +170,7 @@ impl<'a> Trial<'a> {
             m,
             count,
             source,
+            factors,
         }
     }
 

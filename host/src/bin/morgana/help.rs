@@ -26,12 +26,13 @@ Values are modulo p = 2147483647.
   morgana evaluate KEY [--point FILE] [--quadratic]
       Evaluates the key at a random point (--random asks for the same), or at
       each point in FILE, up to one that is refused. Prints the point, then for
-      each array its number, A, B and C, and last the key's own A, B and C,
-      which are those of the last array.
+      each array its number, A, B and C, and then the key's own A, B and C,
+      which are those of the last array. Behind all points it prints the count
+      of factors.
 
   morgana cell KEY ROW COLUMN
       Prints A, B and C at one row and column of the key's matrices, both
-      counted from 0.
+      counted from 0, and the count of factors.
 
   morgana move KEY --to FILE [--force]
       Writes the key to FILE in the edition that it is not of, 1 or 2: the same
@@ -47,13 +48,14 @@ Values are modulo p = 2147483647.
       2^-80 (at most 4), or N of them (1 to 1000000), or at the points in FILE,
       for which no bound is given. Prints `same` or `different`, what that
       rests on, and then the points; for `different` the first point that shows
-      it. With --quiet no points are printed.
+      it. With --quiet no points are printed. The count of factors comes last.
       Where OLD and NEW are folders, all files of the same path below them are
       compared. One that is no key is refused; one that only one folder has
       fails, and so does a link to a folder. With --pairs the files on each
       line of FILE are compared: an old and a new name, with a tab or a space
       between, from the current folder on. Each pair then has one line; its
-      points are printed with --json alone.
+      points are printed with --json alone, and the count of factors of all
+      pairs comes last.
 
   morgana --help, morgana COMMAND --help    Prints this page.
   morgana --version                         Prints the version.
@@ -77,6 +79,19 @@ What \"same\" means
   (no row bits and no column bits); else it has the bound that is printed, for
   points drawn at random once both keys are fixed. A bound below 1.0e-38 is
   printed as that.
+
+Factors
+  The last line of evaluate, cell and compare counts the factors of the weights
+  of a key's cells and calls, one for each coordinate:
+      factors 3
+  A cell in an array of k row bits and k' column bits counts k + k', a call
+  from there of an array of K and K' bits (k - K) + (k' - K'), in all arrays of
+  the key. The factor of a call of edition 2 counts nothing, and with
+  --quadratic the count is the same. It is at most (n + n')(cells + calls), by
+  what check prints, where n and n' are rows and columns. Compare counts both
+  keys. The line adds up all answers of a run, at all their points; identical
+  files and refusals have no count, and where nothing has, there is no such
+  line. With --json each object has its own count.
 
 Point file
   Two lines for each point, as evaluate and compare print them; their whole
@@ -112,4 +127,5 @@ Example
   keys that differ would pass with probability at most 9.4e-10 (m = 2, 1 point)
   rows 850563382
   columns 317573359
+  factors 5
 ";

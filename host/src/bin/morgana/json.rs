@@ -20,8 +20,8 @@ pub fn json(answer: &Answer) -> Pieces<'_> {
         Outcome::Evaluated(field, evaluation) => {
             evaluated(open().status("accepted"), *field, evaluation)
         }
-        Outcome::Celled(row, column, values) => {
-            let Values { a, b, c } = *values;
+        Outcome::Celled(row, column, evaluated) => {
+            let Values { a, b, c } = evaluated.values;
             let numbers = [
                 ("row", *row),
                 ("column", *column),
@@ -29,7 +29,8 @@ pub fn json(answer: &Answer) -> Pieces<'_> {
                 ("b", b),
                 ("c", c),
             ];
-            open().status("accepted").numbers(&numbers).line()
+            let object = open().status("accepted").numbers(&numbers);
+            object.factors(evaluated.factors).line()
         }
         Outcome::Moved(moved) => open()
             .status("accepted")
@@ -84,6 +85,11 @@ impl Object {
     fn numbers(self, numbers: &[(&str, u32)]) -> Object {
         let add = |object: Object, (name, number): &(&str, u32)| object.number(name, number);
         numbers.iter().fold(self, add)
+    }
+
+    /// The object with a count of factors.
+    fn factors(self, factors: u64) -> Object {
+        self.number("factors", factors)
     }
 
     /// The object with a truth value.
@@ -224,6 +230,7 @@ fn evaluated(object: Object, field: Field, evaluation: &Evaluation) -> String {
     names
         .zip(last)
         .fold(object, |object, (name, value)| object.value(name, &value))
+        .factors(evaluation.factors)
         .line()
 }
 
@@ -267,7 +274,7 @@ fn with_verdict(object: Object, verdict: &Verdict) -> Object {
     with_tried(object, verdict, tried)
 }
 
-/// An object with the points that were tried, and the bound on keys that differ where there is one.
+/// An object with the points that were tried, the bound on keys that differ where there is one, and the factors.
 fn with_tried(object: Object, verdict: &Verdict, tried: &Tried) -> Object {
     let object = object
         .string("field", field_name(tried.field))
@@ -280,6 +287,7 @@ fn with_tried(object: Object, verdict: &Verdict, tried: &Tried) -> Object {
         }
         Source::Drawn(_) => object,
     }
+    .factors(tried.factors)
 }
 
 /// The line of a refusal.

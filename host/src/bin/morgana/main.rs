@@ -42,18 +42,25 @@ fn main() -> ExitCode {
 /// Answers what is asked on standard output, and answers the exit status.
 fn run(request: &Request) -> Result<Status, Failure> {
     let mut output = Output::open(request.json)?;
+    let status = answer(&request.command, &mut output)?;
+    output.end()?;
+    Ok(status)
+}
+
+/// Answers a command, and answers the exit status.
+fn answer(command: &Command, output: &mut Output) -> Result<Status, Failure> {
     let one = |key: &Name| Files::One(key.clone());
-    match &request.command {
+    match command {
         Command::Help => output.page(help::HELP),
         Command::Version => output.page(help::VERSION),
         Command::Check { keys } => match keys.as_slice() {
             [key] => output.only("check", one(key), commands::check(key)),
-            _ => check_each(keys, &mut output),
+            _ => check_each(keys, output),
         },
         Command::Show { key } => output.only("show", one(key), commands::show(key)),
         Command::Evaluate { key, point, field } => {
             match commands::evaluate(key, point.as_ref(), *field) {
-                Ok(outcomes) => evaluate_each(one(key), outcomes, &mut output),
+                Ok(outcomes) => evaluate_each(one(key), outcomes, output),
                 Err(failure) => output.only("evaluate", one(key), Err(failure)),
             }
         }
@@ -64,10 +71,10 @@ fn run(request: &Request) -> Result<Status, Failure> {
             let files = Files::Copy(key.clone(), to.clone());
             output.only("move", files, commands::moved(key, to, *force))
         }
-        Command::Compare { old, new, manner } => compare(old, new, manner, &mut output),
+        Command::Compare { old, new, manner } => compare(old, new, manner, output),
         Command::ComparePairs { list, manner } => {
             let pairs = pairs::of_list(list);
-            compare_each(one(list), pairs, manner, &mut output)
+            compare_each(one(list), pairs, manner, output)
         }
     }
 }

@@ -3,7 +3,7 @@
 use crate::files::Name;
 use crate::records::Edition;
 use crate::show::Line;
-use morgana::{Counts, Field, Likelihood, Point, Refusal, Values};
+use morgana::{Counts, Evaluated, Field, Likelihood, Point, Refusal, Values};
 use std::fmt::{Display, Formatter};
 use std::io;
 
@@ -51,8 +51,8 @@ pub enum Outcome {
     Shown(Vec<Line>),
     /// The key's values at a point.
     Evaluated(Field, Evaluation),
-    /// The key's values at a row and a column.
-    Celled(u32, u32, Values),
+    /// What cell answers of the key at a row and a column.
+    Celled(u32, u32, Evaluated<Values>),
     /// Whether two keys are the same, and the points behind that.
     Compared(Verdict, Vec<Point>),
     /// A key's copy in the other edition is written.
@@ -70,6 +70,8 @@ pub struct Evaluation {
     pub point: Point,
     /// Every array's numbers: those of A, then of B, then of C.
     pub arrays: Vec<Vec<u32>>,
+    /// The key's count of factors.
+    pub factors: u64,
 }
 
 /// A key that was moved.
@@ -105,6 +107,8 @@ pub struct Tried {
     pub count: u32,
     /// The file that they are from, or how likely keys that differ pass at as many random ones.
     pub source: Source,
+    /// The counts of factors of both keys, added up over the points that were tried.
+    pub factors: u64,
 }
 
 /// Where points are from.
@@ -169,6 +173,26 @@ impl Outcome {
             Outcome::Refused(..) => Status::Refused,
             Outcome::Failed(_) => Status::Failed,
             _ => Status::Accepted,
+        }
+    }
+
+    /// The factors of all calls that the outcome rests on; none where no call counts them.
+    pub fn factors(&self) -> Option<u64> {
+        match self {
+            Outcome::Evaluated(_, evaluation) => Some(evaluation.factors),
+            Outcome::Celled(_, _, evaluated) => Some(evaluated.factors),
+            Outcome::Compared(verdict, _) => verdict.tried().map(|tried| tried.factors),
+            _ => None,
+        }
+    }
+}
+
+impl Verdict {
+    /// The points at which the keys were compared; none for identical files.
+    pub fn tried(&self) -> Option<&Tried> {
+        match self {
+            Verdict::Identical => None,
+            Verdict::Same(tried) | Verdict::Different(_, tried) => Some(tried),
         }
     }
 }

@@ -14,6 +14,8 @@ pub type Pieces<'a> = Box<dyn Iterator<Item = String> + 'a>;
 pub struct Output {
     out: BufWriter<io::Stdout>,
     json: bool,
+    /// The factors of all answers up to now; none where no answer has a count.
+    factors: Option<u64>,
 }
 
 impl Output {
@@ -22,8 +24,11 @@ impl Output {
         if closed::output_is_closed() {
             return Err(Failure::Output(io::Error::other("it is closed")));
         }
-        let out = BufWriter::new(io::stdout());
-        Ok(Output { out, json })
+        Ok(Output {
+            out: BufWriter::new(io::stdout()),
+            json,
+            factors: None,
+        })
     }
 
     /// Writes a page of text.
@@ -74,6 +79,8 @@ impl Output {
         several: bool,
     ) -> Result<Status, Failure> {
         let status = outcome.status();
+        let counts = self.factors.into_iter().chain(outcome.factors());
+        self.factors = counts.reduce(|total, factors| total + factors);
         let answer = Answer {
             command,
             files,
@@ -84,6 +91,15 @@ impl Output {
             false => text::text(&answer, several),
         })?;
         Ok(status)
+    }
+
+    /// Ends a run: the last line of text has the factors of all answers, where one has a count. JSON has them in each
+    /// object.
+    pub fn end(&mut self) -> Result<(), Failure> {
+        match self.factors {
+            Some(total) if !self.json => self.write(Box::new(iter::once(text::factors(total)))),
+            _ => Ok(()),
+        }
     }
 
     /// Writes text, and all that was written before it, to standard output.

@@ -8,7 +8,7 @@ use std::fmt::Write;
 /// The verdicts that compare prints as lines.
 const VERDICTS: [&str; 2] = ["same", "different"];
 
-/// How the other lines begin that evaluate and compare print beside the points, but for those of values.
+/// How the other lines begin that evaluate and compare print beside the points, but for those of values and factors.
 const STARTS: [&str; 9] = [
     "same \"",
     "different \"",
@@ -82,9 +82,13 @@ pub fn parse(text: &[u8], field: Field) -> Result<Vec<Point>, Fault> {
 /// Whether a line is one that evaluate or compare prints beside a point. None of them ends as an object of JSON does, which
 /// may stand behind one where the end of the line was lost.
 fn is_other(text: &str) -> bool {
-    let of_values = |word: &str| ["A", "B", "C"].contains(&word) || decimal(word).is_some();
+    let of_values = |word: &str| ["A", "B", "C"].contains(&word) || decimal::<u32>(word).is_some();
     let begins = STARTS.iter().any(|start| text.starts_with(start));
-    text.split(' ').all(of_values) || VERDICTS.contains(&text) || begins && !text.ends_with('}')
+    let count = text.strip_prefix("factors ").and_then(decimal::<u64>);
+    text.split(' ').all(of_values)
+        || VERDICTS.contains(&text)
+        || count.is_some()
+        || begins && !text.ends_with('}')
 }
 
 /// The numbers of a line behind its first word.
@@ -215,7 +219,7 @@ mod tests {
     #[test]
     fn several_points_and_what_stands_beside_them_are_read() {
         let text = "same\nkeys that differ would pass with probability at most 1.0e-38 (m = 2, 9 points)\n\
-            rows 1\ncolumns 2\n0 20 28 0\nA 1 B 2 C 3\nrows 3\ncolumns 4\n";
+            rows 1\ncolumns 2\n0 20 28 0\nA 1 B 2 C 3\nfactors 3\nrows 3\ncolumns 4\nfactors 18446744073709551615\n";
         let wanted = vec![point(&[1], &[2]), point(&[3], &[4])];
         assert_eq!(read(text), Ok(wanted));
     }
@@ -267,8 +271,10 @@ mod tests {
             r#"A 1 B 2 C 3{"rows":[1],"columns":[2]}"#,
             r#"same{"rows":[1],"columns":[2]}"#,
             r#"at point 1 of 2{"rows":[1],"columns":[2]}"#,
+            r#"factors 6{"rows":[1],"columns":[2]}"#,
             "A 1 B 2 C 3rows 4\ncolumns 5",
             "samerows 4\ncolumns 5",
+            "factors 6rows 4\ncolumns 5",
         ] {
             assert_eq!(read(text).unwrap_err().line, 1, "{text}");
             assert_eq!(read(&format!("{good}\n{text}\n")).unwrap_err().line, 2);
@@ -301,6 +307,16 @@ mod tests {
             ("columns 4\nrows 3\n", 1, r#"does not begin with "rows""#),
             ("row 3\ncolumns 4\n", 1, r#"does not begin with "rows""#),
             ("0 x 1\n", 1, r#"does not begin with "rows""#),
+            ("factors\n", 1, r#"does not begin with "rows""#),
+            ("factors +1\n", 1, r#"does not begin with "rows""#),
+            ("factors 1 2\n", 1, r#"does not begin with "rows""#),
+            ("factor 1\n", 1, r#"does not begin with "rows""#),
+            (
+                "factors 18446744073709551616\n",
+                1,
+                r#"does not begin with "rows""#,
+            ),
+            ("rows 3\nfactors 1\n", 2, r#"does not begin with "columns""#),
             ("rows 3\nrows 4\n", 2, r#"does not begin with "columns""#),
             ("rows 3\nsame\n", 2, r#"does not begin with "columns""#),
             (

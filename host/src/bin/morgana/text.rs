@@ -19,7 +19,10 @@ pub fn text(answer: &Answer, several: bool) -> Pieces<'_> {
         Outcome::Checked(length, _, counts) => format!("{}{files}\n", checked(*length, counts)),
         Outcome::Shown(lines) => shown(lines),
         Outcome::Evaluated(_, evaluation) => evaluated(evaluation),
-        Outcome::Celled(_, _, Values { a, b, c }) => format!("A {a} B {b} C {c}\n"),
+        Outcome::Celled(_, _, evaluated) => {
+            let Values { a, b, c } = evaluated.values;
+            format!("A {a} B {b} C {c}\n")
+        }
         Outcome::Moved(moved) => format!("{}{files}\n", moved_line(moved)),
         Outcome::Compared(verdict, _) if several => {
             format!("{}{files}; {}\n", word(verdict), in_short(verdict))
@@ -41,6 +44,11 @@ pub fn text(answer: &Answer, several: bool) -> Pieces<'_> {
         },
     };
     Box::new(iter::once(lines))
+}
+
+/// The line of the factors of a whole run.
+pub fn factors(count: u64) -> String {
+    format!("factors {count}\n")
 }
 
 /// The keys that an answer is about.
@@ -198,9 +206,11 @@ mod tests {
                             true => Source::File(Name::from("f")),
                             false => Source::Drawn(Likelihood::new(field, m, count)),
                         },
+                        factors: u64::MAX,
                     };
                     for verdict in [Verdict::Same(tried()), Verdict::Different(1, tried())] {
                         let text: String = text(&answer(verdict, &used), false).collect();
+                        let text = text + &factors(u64::MAX);
                         let read = points::parse(text.as_bytes(), field);
                         assert_eq!(read, Ok(used.to_vec()), "{text}");
                     }

@@ -7,6 +7,7 @@
 
 mod accept;
 mod call;
+mod counter;
 pub mod factors;
 mod lazy;
 mod records;
@@ -16,6 +17,7 @@ use super::field::Field;
 use super::key::{self, MOST_ARRAYS};
 use super::{refuse, CompareRefusal, Counts, Refusal};
 use accept::accept;
+use counter::Counter;
 pub use lazy::Lazy;
 use records::write;
 
@@ -68,6 +70,16 @@ pub fn evaluate<W: Weights>(
     let counts = check_with(key, &mut shapes)?;
     judge::<W::Field>(counts, counts.arrays, rows, columns, sheet)?;
     Ok(write(key, &shapes, &W::new(rows, columns), sheet))
+}
+
+/// The count of factors of an accepted key: those that the pass asks for, counted apart, so that the calls that are timed
+/// count nothing.
+pub fn factors(key: &[u8]) -> Result<u64, Refusal> {
+    let mut shapes = [[0; 2]; MOST_ARRAYS];
+    check_with(key, &mut shapes)?;
+    let counter = Counter::default();
+    write(key, &shapes, &counter, &mut [0; 3 * MOST_ARRAYS]);
+    Ok(counter.total())
 }
 
 /// Compare: the first key, the second key, 35, 21, 22, 23, 31; whether all three values agree.

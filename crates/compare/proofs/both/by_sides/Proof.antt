@@ -1,5 +1,5 @@
 -- `compare::both::by_sides` meets its contract: the two passes on sides that are prepared once.
-use Prim.Native.Nat.{ℕ, _≤_}
+use Prim.Native.Nat.{ℕ, _+_, _≤_}
 use mathlib.Core.List.{List}
 use mathlib.Core.Path.{_≡_, refl, ap, ap₂, _∙_}
 use native.Mathlib.Omega.{arith}
@@ -9,6 +9,7 @@ use Rattle.field.specs.Scalars.{prime}
 use Rattle.field.proofs.PrimeLawful.{prime-lawful}
 use Rattle.weights.specs.Words.{singles}
 use Rattle.weights.proofs.SingleWords.{singles-lawful}
+use Rattle.key.proofs.FactorLimits.{key-factors-few}
 use Rattle.evaluation.specs.Sheet.{laid}
 use Rattle.evaluation.proofs.PreparedSides.{sides-ready, sheet-prepared}
 use Rattle.evaluation.proofs.SheetAfterPass.{last-filled, last-extended}
@@ -29,11 +30,11 @@ still-room : (words : ℕ → List ℕ) (arrays : ℕ) (sheet after : List ℕ) 
     needed ≤ length sheet → needed ≤ length after
 still-room words arrays sheet after needed e l = omega (arith, ap length e ∙ laid-length 0 words arrays sheet)
 
-cast-t16 : tie.Need-cast-t16
-cast-t16 c = search needs
-
 cast-t18 : tie.Need-cast-t18
 cast-t18 c = search needs
+
+cast-t20 : tie.Need-cast-t20
+cast-t20 c = search needs
 
 prepare-requires : tie.Need-prepare-requires
 prepare-requires c κs = search needs
@@ -62,7 +63,7 @@ last-requires c κs =
     let one = begun sides .pre .0 in
     last-filled prime prime-lawful _ _ _ (one .point) _ (one .counted) _ _ (one .room)
     (sheet-prepared singles singles-lawful _ _ _ (one .point) _ _ (rows sides .prepare .ensures) (sides .prepare2 .ensures) _ (one .counted) _ _
-    (ran .over .ensures))
+    (ran .over .ensures .1))
 
 over-requires-2 : tie.Need-over-requires-2
 over-requires-2 c κs =
@@ -72,7 +73,7 @@ over-requires-2 c κs =
     let other = begun sides .pre .1 .0 in
     let written =
     sheet-prepared singles singles-lawful _ _ _ (one .point) _ _ (rows sides .prepare .ensures) (sides .prepare2 .ensures) _ (one .counted) _ _
-    (ran .over .ensures) in (
+    (ran .over .ensures .1) in (
       other .indexed,
       (
         other .counted,
@@ -92,10 +93,26 @@ last-requires-2 c κs =
     let other = begun sides .pre .1 .0 in
     let written =
     sheet-prepared singles singles-lawful _ _ _ (one .point) _ _ (rows sides .prepare .ensures) (sides .prepare2 .ensures) _ (one .counted) _ _
-    (ran .over .ensures) in
+    (ran .over .ensures .1) in
     last-filled prime prime-lawful _ _ _ (other .point) _ (other .counted) _ _ (still-room _ _ _ _ _ written (other .room))
     (sheet-prepared singles singles-lawful _ _ _ (other .point) _ _ (rows sides .prepare .ensures) (sides .prepare2 .ensures) _ (other .counted) _ _
-    (ran-2 .over2 .ensures))
+    (ran-2 .over2 .ensures .1))
+
+-- 64 bits have room for the factors of both
+add-likeness : tie.Need-add-likeness
+add-likeness c =
+    let ran-2 = c .before .before .before .before in
+    let ran = ran-2 .before .before .before .before .before .before .before .before in
+    let a = begun (ran .before .before .before .before .before .before) in
+    let one = a .pre .0 .indexed in
+    let other = a .pre .1 .0 .indexed in
+    omega (
+      arith,
+      ran .over .ensures .0,
+      ran-2 .over2 .ensures .0,
+      key-factors-few _ (one .counts) (one .accepted),
+      key-factors-few _ (other .counts) (other .accepted),
+    )
 
 likeness-requires : tie.Need-likeness-requires
 likeness-requires c κs = search needs
@@ -118,30 +135,34 @@ returns c =
     let other = begun sides .pre .1 .0 in
     let written =
     sheet-prepared singles singles-lawful _ _ _ (one .point) _ _ (rows sides .prepare .ensures) (sides .prepare2 .ensures) _ (one .counted) _ _
-    (ran .over .ensures) in
+    (ran .over .ensures .1) in
     let written-2 =
     sheet-prepared singles singles-lawful _ _ _ (other .point) _ _ (rows sides .prepare .ensures) (sides .prepare2 .ensures) _ (other .counted) _ _
-    (ran-2 .over2 .ensures) in (
-      c .likeness .ensures
+    (ran-2 .over2 .ensures .1) in (
+      c .likeness .ensures .0
           ∙ ap₂ (likeness prime)
           (last-extended prime prime-lawful _ _ _ (one .point) _ (one .counted) _ _ (one .room) written _ (ran-2 .before .before .before .before .last .ensures))
           (last-extended prime prime-lawful _ _ _ (other .point) _ (other .counted) _ _ (still-room _ _ _ _ _ written (other .room)) written-2 _
           (c .before .last2 .ensures)),
-      written-2 ∙ ap (laid 0 _ _) written,
+      (
+        c .likeness .ensures .1 ∙ ap₂ _+_ (ran .over .ensures .0) (ran-2 .over2 .ensures .0),
+        written-2 ∙ ap (laid 0 _ _) written,
+      ),
     )
 
 pub by-sides-spec : {M : Type 1} → statement M
 by-sides-spec =
     tie.close
     (tie.spec
-    cast-t16
     cast-t18
+    cast-t20
     prepare-requires
     prepare-requires-2
     over-requires
     last-requires
     over-requires-2
     last-requires-2
+    add-likeness
     likeness-requires
     same-length
     same-length-2

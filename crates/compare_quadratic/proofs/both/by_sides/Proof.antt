@@ -1,5 +1,5 @@
 -- `compare_quadratic::both::by_sides` meets its contract: the two passes on sides that are prepared once.
-use Prim.Native.Nat.{ℕ, _≤_}
+use Prim.Native.Nat.{ℕ, _+_, _≤_}
 use mathlib.Core.List.{List}
 use mathlib.Core.Path.{_≡_, sym, ap, ap₂, _∙_}
 use native.Mathlib.Omega.{arith}
@@ -11,6 +11,7 @@ use Rattle.quadratic.proofs.QuadraticLawful.{quadratic-lawful}
 use Rattle.quadratic.proofs.TwoByTwo.{two-count}
 use Rattle.weights_quadratic.specs.Packed.{packed}
 use Rattle.weights_quadratic.proofs.PackedWords.{packed-lawful}
+use Rattle.key.proofs.FactorLimits.{key-factors-few}
 use Rattle.evaluation.specs.Sheet.{laid}
 use Rattle.evaluation.proofs.PreparedSides.{sides-ready, sheet-prepared}
 use Rattle.evaluation.proofs.SheetAfterPass.{last-filled, last-extended}
@@ -31,11 +32,11 @@ still-room : (words : ℕ → List ℕ) (arrays : ℕ) (sheet after : List ℕ) 
     needed ≤ length sheet → needed ≤ length after
 still-room words arrays sheet after needed e l = omega (arith, ap length e ∙ laid-length 0 words arrays sheet)
 
-cast-t17 : tie.Need-cast-t17
-cast-t17 c = search needs
+cast-t19 : tie.Need-cast-t19
+cast-t19 c = search needs
 
-cast-t20 : tie.Need-cast-t20
-cast-t20 c = search needs
+cast-t22 : tie.Need-cast-t22
+cast-t22 c = search needs
 
 prepare-requires : tie.Need-prepare-requires
 prepare-requires c κs = search needs
@@ -65,7 +66,7 @@ last-requires c κs =
     let one = begun sides .pre .0 in
     last-filled quadratic quadratic-lawful _ _ _ (one .point) _ (one .counted) _ _ (one .room)
     (sheet-prepared packed packed-lawful _ _ _ (one .point) _ _ (rows sides .prepare .ensures) (sides .prepare2 .ensures) _ (one .counted) _ _
-    (ran .over .ensures))
+    (ran .over .ensures .1))
 
 over-requires-2 : tie.Need-over-requires-2
 over-requires-2 c κs =
@@ -75,7 +76,7 @@ over-requires-2 c κs =
     let other = begun sides .pre .1 .0 in
     let written =
     sheet-prepared packed packed-lawful _ _ _ (one .point) _ _ (rows sides .prepare .ensures) (sides .prepare2 .ensures) _ (one .counted) _ _
-    (ran .over .ensures) in (
+    (ran .over .ensures .1) in (
       other .indexed,
       (
         other .counted,
@@ -96,10 +97,26 @@ last-requires-2 c κs =
     let other = begun sides .pre .1 .0 in
     let written =
     sheet-prepared packed packed-lawful _ _ _ (one .point) _ _ (rows sides .prepare .ensures) (sides .prepare2 .ensures) _ (one .counted) _ _
-    (ran .over .ensures) in
+    (ran .over .ensures .1) in
     last-filled quadratic quadratic-lawful _ _ _ (other .point) _ (other .counted) _ _ (still-room _ _ _ _ _ written (other .room))
     (sheet-prepared packed packed-lawful _ _ _ (other .point) _ _ (rows sides .prepare .ensures) (sides .prepare2 .ensures) _ (other .counted) _ _
-    (ran-2 .over2 .ensures))
+    (ran-2 .over2 .ensures .1))
+
+-- 64 bits have room for the factors of both
+add-likeness : tie.Need-add-likeness
+add-likeness c =
+    let ran-2 = c .before .before .before .before in
+    let ran = ran-2 .before .before .before .before .before .before .before .before in
+    let a = begun (ran .before .before .before .before .before .before) in
+    let one = a .pre .0 .indexed in
+    let other = a .pre .1 .0 .indexed in
+    omega (
+      arith,
+      ran .over .ensures .0,
+      ran-2 .over2 .ensures .0,
+      key-factors-few _ (one .counts) (one .accepted),
+      key-factors-few _ (other .counts) (other .accepted),
+    )
 
 likeness-requires : tie.Need-likeness-requires
 likeness-requires c κs = search needs
@@ -122,30 +139,34 @@ returns c =
     let other = begun sides .pre .1 .0 in
     let written =
     sheet-prepared packed packed-lawful _ _ _ (one .point) _ _ (rows sides .prepare .ensures) (sides .prepare2 .ensures) _ (one .counted) _ _
-    (ran .over .ensures) in
+    (ran .over .ensures .1) in
     let written-2 =
     sheet-prepared packed packed-lawful _ _ _ (other .point) _ _ (rows sides .prepare .ensures) (sides .prepare2 .ensures) _ (other .counted) _ _
-    (ran-2 .over2 .ensures) in (
-      c .likeness .ensures
+    (ran-2 .over2 .ensures .1) in (
+      c .likeness .ensures .0
           ∙ ap₂ (likeness quadratic)
           (last-extended quadratic quadratic-lawful _ _ _ (one .point) _ (one .counted) _ _ (one .room) written _ (ran-2 .before .before .before .before .last .ensures))
           (last-extended quadratic quadratic-lawful _ _ _ (other .point) _ (other .counted) _ _ (still-room _ _ _ _ _ written (other .room)) written-2 _
           (c .before .last2 .ensures)),
-      written-2 ∙ ap (laid 0 _ _) written,
+      (
+        c .likeness .ensures .1 ∙ ap₂ _+_ (ran .over .ensures .0) (ran-2 .over2 .ensures .0),
+        written-2 ∙ ap (laid 0 _ _) written,
+      ),
     )
 
 pub by-sides-spec : {M : Type 1} → statement M
 by-sides-spec =
     tie.close
     (tie.spec
-    cast-t17
-    cast-t20
+    cast-t19
+    cast-t22
     prepare-requires
     prepare-requires-2
     over-requires
     last-requires
     over-requires-2
     last-requires-2
+    add-likeness
     likeness-requires
     same-length
     same-length-2

@@ -10,8 +10,7 @@ use Rattle.weights.specs.Words.{singles}
 use Rattle.key.specs.KeyArrays.{keyArrays}
 use Rattle.key.proofs.IndexedKey.{accepts, entries-run, entries-written, opening-inside}
 use Rattle.evaluation.specs.Inner.{ReachedIn}
-use Rattle.evaluation.proofs.NextEntryAdded.{cell-room, cell-below, cell-added}
-use Rattle.evaluation.proofs.PreparedSides.{rows-further, columns-further}
+use Rattle.evaluation.proofs.NextEntryAdded.{cell-room, cell-fits, cell-added}
 use Rattle.evaluation.proofs.SumIsArrayValues.{cells-done}
 use Rattle.evaluation.proofs.SumOfEntries.{CellsLeft, cells-begun}
 use Rattle.evaluate.specs.Inner.{reducedIn, Light}
@@ -65,7 +64,7 @@ loop-holds c =
           (cells-begun prime _ _ _ _ _ _ _ (entries-run _ _ (a .pre .0) (a .args .i) (inside a))
           (accepts _ _ (a .pre .0) .well-formed .arrays-fit (a .args .i) (inside a) .entries-fit)
           (entries-written _ _ (a .pre .0) (a .args .i) (inside a)) (a .pre .1 .1 .1 .0)),
-      record { a-bound = omega arith; b-bound = omega arith; c-bound = omega arith },
+      record { a-bound = omega arith; b-bound = omega arith; c-bound = omega arith; factors-bound = omega arith },
     )
 
 -- in a turn: the start, and that the cell lies in the key
@@ -75,8 +74,7 @@ start c = begun (c .before .before)
 room : (c : tie.In-loop Inv-loop μ-loop) → c .before .loop .at + 21 ≤ length (now (start c .args .key))
 room c =
     let a = start c in
-    cell-room prime _ _ _ _ _ _ (a .args .reached) (rows-further singles (far a))
-    (columns-further singles (far a)) _ _ (c .loop-test .taken) (c .before .loop .inv .0 [])
+    cell-room prime _ _ _ _ _ _ _ _ (far a .row-bits) (far a .column-bits) _ _ (c .loop-test .taken) (c .before .loop .inv .0 [])
 
 add-cell : tie.Need-add-cell Inv-loop μ-loop
 add-cell c = omega (arith, room c, offset-small (start c) .1)
@@ -92,9 +90,8 @@ cell-requires-2 : tie.Need-cell-requires-2 Inv-loop μ-loop
 cell-requires-2 c κs =
     let t = c .before in
     let a = start t in (
-      cell-below prime _ _ _ _ _ _ (a .args .reached) (rows-further singles (far a))
-          (columns-further singles (far a)) _ _ (t .loop-test .taken) (t .before .loop .inv .0 []) _ (c .cell .ensures),
-      (far a .rows-reached .side, (far a .columns-reached .side, light t)),
+      cell-fits prime _ _ _ _ _ _ _ _ (far a .row-bits) (far a .column-bits) _ _ (t .loop-test .taken) (t .before .loop .inv .0 []) _ (c .cell .ensures),
+      (far a .rows-reached, (far a .columns-reached, light t)),
     )
 
 add-at-2 : tie.Need-add-at-2 Inv-loop μ-loop
@@ -107,8 +104,7 @@ loop-again : tie.Need-loop-again Inv-loop μ-loop
 loop-again c =
     let t = c .before .before in
     let a = start t in (
-      λ sheet. cell-added prime _ _ _ _ _ _ (a .args .reached) (rows-further singles (far a))
-          (columns-further singles (far a)) _ _ (t .loop-test .taken) (t .before .loop .inv .0 sheet) _
+      λ sheet. cell-added prime _ _ _ _ _ _ _ _ (far a .row-bits) (far a .column-bits) _ _ (t .loop-test .taken) (t .before .loop .inv .0 sheet) _
           (c .before .cell .ensures) _ (c .cell2 .ensures .is),
       bounded-onward _ _ _ _ _ (omega arith) (c .cell2 .ensures) (t .before .loop .inv .1),
     )

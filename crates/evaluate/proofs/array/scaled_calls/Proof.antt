@@ -12,7 +12,6 @@ use Rattle.key.specs.KeyArrays.{keyArrays, keyScaled}
 use Rattle.key.proofs.IndexedKey.{accepts, entries-run, entries-written, opening-inside}
 use Rattle.evaluation.specs.Inner.{ReachedIn}
 use Rattle.evaluation.proofs.NextEntryAdded.{call-room, scaled-call-called, scaled-call-added}
-use Rattle.evaluation.proofs.PreparedSides.{rows-further, columns-further}
 use Rattle.evaluation.proofs.SumIsArrayValues.{calls-done}
 use Rattle.evaluation.proofs.SumOfEntries.{CallsLeft, calls-begun}
 use Rattle.evaluate.specs.Inner.{reducedIn, Light}
@@ -68,7 +67,7 @@ loop-holds c =
           (calls-begun prime _ _ _ _ _ _ _ (entries-run _ _ (a .pre .0) (a .args .i) (inside a))
           (accepts _ _ (a .pre .0) .well-formed .arrays-fit (a .args .i) (inside a) .entries-fit)
           (entries-written _ _ (a .pre .0) (a .args .i) (inside a)) (a .pre .1 .1 .1 .1 .0)),
-      record { a-bound = omega arith; b-bound = omega arith; c-bound = omega arith },
+      record { a-bound = omega arith; b-bound = omega arith; c-bound = omega arith; factors-bound = omega arith },
     )
 
 -- in a turn: the start, and that the call lies in the key
@@ -78,8 +77,7 @@ start c = begun (c .before .before)
 room : (c : tie.In-loop Inv-loop μ-loop) → c .before .loop .at + 15 ≤ length (now (start c .args .key))
 room c =
     let a = start c in
-    call-room prime _ _ _ _ _ _ (a .args .reached) (rows-further singles (far a))
-    (columns-further singles (far a)) _ _ (c .loop-test .taken) (c .before .loop .inv .0) true (edition a)
+    call-room prime _ _ _ _ _ _ _ _ (far a .row-bits) (far a .column-bits) _ _ (c .loop-test .taken) (c .before .loop .inv .0) true (edition a)
 
 add-scaled-call : tie.Need-add-scaled-call Inv-loop μ-loop
 add-scaled-call c = omega (arith, room c, offset-small (start c) .1)
@@ -97,10 +95,9 @@ scaled-call-requires-2 c κs =
     let a = start t in (
       a .pre .0,
       (
-        scaled-call-called prime _ _ _ _ _ _ (a .args .reached) (rows-further singles (far a))
-            (columns-further singles (far a)) _ _ (t .loop-test .taken) (t .before .loop .inv .0) (edition a) _ (c .scaled-call .ensures)
+        scaled-call-called prime _ _ _ _ _ _ _ _ (far a .row-bits) (far a .column-bits) _ _ (t .loop-test .taken) (t .before .loop .inv .0) (edition a) _ (c .scaled-call .ensures)
             (inside a) (a .pre .1 .1 .1 .1 .1 .1),
-        (far a .rows-reached .side, (far a .columns-reached .side, light t)),
+        (far a .rows-reached, (far a .columns-reached, light t)),
       ),
     )
 
@@ -114,8 +111,7 @@ loop-again : tie.Need-loop-again Inv-loop μ-loop
 loop-again c =
     let t = c .before .before in
     let a = start t in (
-      scaled-call-added prime _ _ _ _ _ _ (a .args .reached) (rows-further singles (far a))
-          (columns-further singles (far a)) _ _ (t .loop-test .taken) (t .before .loop .inv .0) (edition a) _
+      scaled-call-added prime _ _ _ _ _ _ _ _ (far a .row-bits) (far a .column-bits) _ _ (t .loop-test .taken) (t .before .loop .inv .0) (edition a) _
           (c .before .scaled-call .ensures) _ (c .scaled-call2 .ensures .is),
       bounded-onward _ _ _ _ _ (omega arith) (c .scaled-call2 .ensures) (t .before .loop .inv .1),
     )

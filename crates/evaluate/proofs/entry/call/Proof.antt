@@ -1,16 +1,20 @@
 -- `evaluate::entry::call` meets its contract: its two factors are those that the prepared sides have, and its factor is 1.
-use mathlib.Core.Path.{refl, sym, ap, ap₂, subst, _∙_}
+use Prim.Native.Nat.{ℕ, _+_}
+use mathlib.Core.Path.{_≡_, refl, sym, ap, ap₂, subst, _∙_}
+use native.Mathlib.Omega.{arith}
 use denote.Ref.{now}
 use borrow.Author.Needs.{needs}
 use Rattle.field.specs.Fp.{fp}
 use Rattle.field.specs.Scalars.{prime}
 use Rattle.field.proofs.PrimeLawful.{prime-lawful}
 use Rattle.records.specs.declared.Shape.{Shape}
-use Rattle.arrays.specs.Arrays.{Values}
+use Rattle.arrays.specs.Arrays.{Values, arrayAt}
+use Rattle.arrays.specs.Factors.{callFactors}
 use Rattle.weights.specs.Side.{prepared}
 use Rattle.weights.specs.Words.{singles}
 use Rattle.key.specs.KeyArrays.{callIn, keyArrays}
-use Rattle.evaluation.specs.Inner.{addedTo}
+use Rattle.evaluation.specs.Evaluate.{Counted}
+use Rattle.evaluation.specs.Inner.{sheetValues, addedTo}
 use Rattle.evaluation.proofs.UnscaledCalls.{call-unscaled}
 use Rattle.evaluate.specs.Inner.{reducedIn, Grown}
 use Rattle.evaluate.proofs.entry.call.Statement.{statement}
@@ -32,54 +36,76 @@ values-requires c κs = search needs
 cast-factor : tie.Need-cast-factor
 cast-factor c = search needs
 
+factor-requires : tie.Need-factor-requires
+factor-requires c κs =
+    let shaped = c .before .before in
+    let a = begun shaped in
+    let called = shaped .shape .ensures in
+    (rw called (a .pre .1 .0 .rows-fit), rw called (a .pre .1 .0 .down-inside), a .pre .1 .1 .0)
+
+folded-requires : tie.Need-folded-requires
+folded-requires c κs = c .factor .ensures .weighs .small
+
 cast-factor-2 : tie.Need-cast-factor-2
 cast-factor-2 c = search needs
 
-factor-requires : tie.Need-factor-requires
-factor-requires c κs =
-    let shaped = c .before .before .before in
-    let a = begun shaped in
-    (rw (shaped .shape .ensures) (a .pre .1 .0 .rows-fit), a .pre .1 .1 .0)
-
-cast-factor-3 : tie.Need-cast-factor-3
-cast-factor-3 c = search needs
-
-cast-factor-4 : tie.Need-cast-factor-4
-cast-factor-4 c = search needs
-
 factor-requires-2 : tie.Need-factor-requires-2
 factor-requires-2 c κs =
-    let shaped = c .before .before .before .before .before .before in
+    let shaped = c .before .before .before .before .before in
     let a = begun shaped in
-    (rw (shaped .shape .ensures) (a .pre .1 .0 .columns-fit), a .pre .1 .1 .1 .0)
+    let called = shaped .shape .ensures in
+    (rw called (a .pre .1 .0 .columns-fit), rw called (a .pre .1 .0 .right-inside), a .pre .1 .1 .1 .0)
 
 add-weighed-requires : tie.Need-add-weighed-requires
 add-weighed-requires c κs =
-    let valued = c .before .before .before .before .before .before in
-    let a = begun (valued .before) in (
-      a .pre .1 .1 .1 .1,
-      rw (valued .values .ensures) (a .pre .1 .0 .below),
-      c .before .before .before .factor .ensures .small,
-      c .factor2 .ensures .small,
+    let valued = c .before .before .before .before .before in
+    let a = begun (valued .before) in
+    let rows = a .pre .1 .1 .0 in
+    let columns = a .pre .1 .1 .1 .0 in
+    let row = c .before .before .before .factor .ensures in
+    let smaller = c .before .before .folded .ensures in
+    let column = c .factor2 .ensures in (
+      (a .pre .1 .1 .1 .1, rw (valued .values .ensures) (a .pre .1 .0 .below)),
+      (
+        (smaller .1, omega (arith, smaller .2, row .counted, rows .further, rows .side .few)),
+        (column .weighs .small, omega (arith, column .counted, columns .further, columns .side .few)),
+      ),
     )
 
 returns : tie.Need-returns
 returns c =
     let weighed = c .before in
-    let valued = weighed .before .before .before .before .before .before in
+    let smaller = weighed .before .before in
+    let of-row = smaller .before in
+    let valued = of-row .before .before in
     let shaped = valued .before in
     let a = begun shaped in
     let called = shaped .shape .ensures in
-    subst (λ (v : Values). Grown (a .args .sums) v (c .add-weighed .result))
-    (ap₂ (addedTo prime (reducedIn (a .args .sums))) (valued .values .ensures)
+    let array = arrayAt (keyArrays (now (a .args .key))) (a .args .c .id) in
+    let factors : smaller .folded .result .factors + weighed .factor2 .result .factors
+    ≡ callFactors (a .args .reached .rows .own) (a .args .reached .columns .own) array =
+    omega (
+      arith,
+      smaller .folded .ensures .2,
+      of-row .factor .ensures .counted,
+      weighed .factor2 .ensures .counted,
+      ap (λ (s : Shape). s .rows) called,
+      ap (λ (s : Shape). s .columns) called,
+    ) in
+    subst (λ (v : Counted prime). Grown (a .args .sums) v (c .add-weighed .result))
+    (ap₂ (λ (v : Values) (w : ℕ). addedTo prime (reducedIn (a .args .sums)) v w
+    (smaller .folded .result .factors + weighed .factor2 .result .factors)) (valued .values .ensures)
     (ap₂ (fp .mul)
-    (weighed .before .before .before .factor .ensures .is
-    ∙ ap (λ (s : Shape). prepared singles (now (a .args .rowwise)) .factor (a .args .shape .rows) (s .rows) (a .args .c .down)) called)
-    (weighed .factor2 .ensures .is
-    ∙ ap (λ (s : Shape). prepared singles (now (a .args .columnwise)) .factor (a .args .shape .columns) (s .columns) (a .args .c .right))
-    called))
+    (smaller .folded .ensures .0
+    ∙ of-row .factor .ensures .weighs .is
+    ∙ ap (λ (s : Shape).
+    prepared singles (now (a .args .rowwise)) .factor (a .args .reached .rows .own) (s .rows) (a .args .c .down)) called)
+    (weighed .factor2 .ensures .weighs .is
+    ∙ ap (λ (s : Shape).
+    prepared singles (now (a .args .columnwise)) .factor (a .args .reached .columns .own) (s .columns) (a .args .c .right)) called))
+    ∙ ap (addedTo prime (reducedIn (a .args .sums)) (sheetValues prime (now (a .args .sheet)) (a .args .c .id)) _) factors
     ∙ sym (call-unscaled prime prime-lawful (keyArrays (now (a .args .key))) (prepared singles (now (a .args .rowwise)))
-    (prepared singles (now (a .args .columnwise))) (now (a .args .sheet)) (a .args .shape .rows) (a .args .shape .columns)
+    (prepared singles (now (a .args .columnwise))) (now (a .args .sheet)) (a .args .reached .rows .own) (a .args .reached .columns .own)
     (reducedIn (a .args .sums)) (callIn (a .args .c)) refl))
     (c .add-weighed .ensures)
 
@@ -91,10 +117,9 @@ call-spec =
     shape-requires
     values-requires
     cast-factor
-    cast-factor-2
     factor-requires
-    cast-factor-3
-    cast-factor-4
+    folded-requires
+    cast-factor-2
     factor-requires-2
     add-weighed-requires
     returns)

@@ -1,6 +1,6 @@
 -- `evaluate::entry::times` meets its contract: the factor is multiplied by the folded weight.
 use Prim.Native.Nat.{ℕ, _*_, _≤_}
-use mathlib.Core.Path.{_≡_, ap₂, _∙_}
+use mathlib.Core.Path.{refl, ap₂, _∙_}
 use native.Mathlib.Nat.{mul-le-mul, mod-eq-of-lt}
 use native.Mathlib.Omega.{arith}
 use borrow.Author.Needs.{needs}
@@ -26,6 +26,7 @@ returns c = (
   c .product .ensures .0
       ∙ ap₂ (λ (x y : ℕ). fp .mul x y) (mod-eq-of-lt (c .before .before .pre .1)) (c .before .folded .ensures .0),
   omega (arith, c .product .ensures .1, fits (c .before)),
+  refl,
 )
 
 pub times-spec : {M : Type 1} → statement M

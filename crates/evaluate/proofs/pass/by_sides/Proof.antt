@@ -54,8 +54,11 @@ returns : tie.Need-returns
 returns c =
     let columns = c .before .before .before .before .before .before .before .before in
     let a = begun columns in
-    sheet-prepared singles singles-lawful _ _ _ (a .pre .1 .1 .0) _ _ (rows columns .prepare .ensures) (columns .prepare2 .ensures) _ (a .pre .1 .0) _ _
-    (c .before .before .over .ensures)
+    let over = c .before .before .over .ensures in (
+      over .0,
+      sheet-prepared singles singles-lawful _ _ _ (a .pre .1 .1 .0) _ _ (rows columns .prepare .ensures) (columns .prepare2 .ensures) _
+          (a .pre .1 .0) _ _ (over .1),
+    )
 
 pub by-sides-spec : {M : Type 1} → statement M
 by-sides-spec =

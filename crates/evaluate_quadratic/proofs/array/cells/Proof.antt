@@ -11,8 +11,7 @@ use Rattle.weights_quadratic.specs.Packed.{packed}
 use Rattle.key.specs.KeyArrays.{keyArrays}
 use Rattle.key.proofs.IndexedKey.{accepts, entries-run, entries-written, opening-inside}
 use Rattle.evaluation.specs.Inner.{ReachedIn}
-use Rattle.evaluation.proofs.NextEntryAdded.{cell-room, cell-below, cell-added}
-use Rattle.evaluation.proofs.PreparedSides.{rows-further, columns-further}
+use Rattle.evaluation.proofs.NextEntryAdded.{cell-room, cell-fits, cell-added}
 use Rattle.evaluation.proofs.SumIsArrayValues.{cells-done}
 use Rattle.evaluation.proofs.SumOfEntries.{CellsLeft, cells-begun}
 use Rattle.evaluate_quadratic.specs.Inner.{reducedIn, Light}
@@ -80,8 +79,7 @@ start c = begun (c .before .before)
 room : (c : tie.In-loop Inv-loop μ-loop) → c .before .loop .at + 21 ≤ length (now (start c .args .key))
 room c =
     let a = start c in
-    cell-room quadratic _ _ _ _ _ _ (a .args .reached) (rows-further packed (far a))
-    (columns-further packed (far a)) _ _ (c .loop-test .taken) (c .before .loop .inv .0 [])
+    cell-room quadratic _ _ _ _ _ _ _ _ (far a .row-bits) (far a .column-bits) _ _ (c .loop-test .taken) (c .before .loop .inv .0 [])
 
 add-cell : tie.Need-add-cell Inv-loop μ-loop
 add-cell c = omega (arith, room c, offset-small (start c) .1)
@@ -97,9 +95,8 @@ cell-requires-2 : tie.Need-cell-requires-2 Inv-loop μ-loop
 cell-requires-2 c κs =
     let t = c .before in
     let a = start t in (
-      cell-below quadratic _ _ _ _ _ _ (a .args .reached) (rows-further packed (far a))
-          (columns-further packed (far a)) _ _ (t .loop-test .taken) (t .before .loop .inv .0 []) _ (c .cell .ensures),
-      (far a .rows-reached .side, (far a .columns-reached .side, light t)),
+      cell-fits quadratic _ _ _ _ _ _ _ _ (far a .row-bits) (far a .column-bits) _ _ (t .loop-test .taken) (t .before .loop .inv .0 []) _ (c .cell .ensures),
+      (far a .rows-reached, (far a .columns-reached, light t)),
     )
 
 add-at-2 : tie.Need-add-at-2 Inv-loop μ-loop
@@ -112,8 +109,7 @@ loop-again : tie.Need-loop-again Inv-loop μ-loop
 loop-again c =
     let t = c .before .before in
     let a = start t in (
-      λ sheet. cell-added quadratic _ _ _ _ _ _ (a .args .reached) (rows-further packed (far a))
-          (columns-further packed (far a)) _ _ (t .loop-test .taken) (t .before .loop .inv .0 sheet) _
+      λ sheet. cell-added quadratic _ _ _ _ _ _ _ _ (far a .row-bits) (far a .column-bits) _ _ (t .loop-test .taken) (t .before .loop .inv .0 sheet) _
           (c .before .cell .ensures) _ (c .cell2 .ensures .is),
       bounded-onward _ _ _ _ _ (omega arith) (c .cell2 .ensures) (t .before .loop .inv .1),
     )

@@ -1,11 +1,12 @@
 -- `evaluate_quadratic::array::values` meets its contract: an array has no more bits than the sides have coordinates, and the three sums are
 -- reduced.
 use Prim.Native.Nat.{_<_}
-use mathlib.Core.Path.{_∙_}
+use mathlib.Core.Path.{ap, _∙_}
 use native.Mathlib.Omega.{arith}
 use denote.Ref.{now}
 use borrow.Author.Needs.{needs}
 use lib.ListN.{length}
+use Rattle.records.specs.declared.Shape.{Shape}
 use Rattle.arrays.specs.Arrays.{arrayAt}
 use Rattle.arrays.specs.Placing.{blocks}
 use Rattle.arrays.specs.WellFormed.{ArrayFits}
@@ -42,14 +43,21 @@ reach-requires-2 c κs =
 total-requires : tie.Need-total-requires
 total-requires c κs =
     let a = c .before .before .before .before .before .before .before .before in
-    let own = c .before .before .shape .ensures in (
+    let own = c .before .before .shape .ensures in
+    let rows = c .before .reach .ensures in
+    let columns = c .reach2 .ensures in (
       a .pre .0,
       (
         a .pre .1 .0,
         (
           a .pre .1 .1 .0,
           (
-            record { rows-reached = rw own at (c .before .reach .ensures); columns-reached = rw own at (c .reach2 .ensures) },
+            record {
+              row-bits = rows .0 ∙ ap (λ (s : Shape). s .rows) own;
+              column-bits = columns .0 ∙ ap (λ (s : Shape). s .columns) own;
+              rows-reached = rw (rows .0) (rows .1);
+              columns-reached = rw (columns .0) (columns .1);
+            },
             a .pre .1 .1 .1 .1,
           ),
         ),
@@ -67,8 +75,13 @@ element-requires-3 c κs = search needs
 
 returns : tie.Need-returns
 returns c =
-    (λ t. record { a = c .before .before .element .ensures t; b = c .before .element2 .ensures t; c = c .element3 .ensures t })
-    ∙ c .before .before .before .total .ensures
+    let sums = c .before .before .before .total in
+    (λ t.
+    record {
+      values = record { a = c .before .before .element .ensures t; b = c .before .element2 .ensures t; c = c .element3 .ensures t };
+      factors = sums .result .factors;
+    })
+    ∙ sums .ensures
 
 pub values-spec : {M : Type 1} → statement M
 values-spec =

@@ -13,7 +13,14 @@ zero-requires-3 : tie.Need-zero-requires-3
 zero-requires-3 c κs = search needs
 
 returns : tie.Need-returns
-returns c = λ t. record { a = c .before .before .zero .ensures t; b = c .before .zero2 .ensures t; c = c .zero3 .ensures t }
+returns c =
+    λ t.
+    record {
+      a = c .before .before .zero .ensures t;
+      b = c .before .zero2 .ensures t;
+      c = c .zero3 .ensures t;
+      factors = 0;
+    }
 
 pub nothing-spec : {M : Type 1} → statement M
 nothing-spec = tie.close (tie.spec zero-requires zero-requires-2 zero-requires-3 returns)

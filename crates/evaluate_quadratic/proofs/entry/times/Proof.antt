@@ -1,6 +1,6 @@
 -- `evaluate_quadratic::entry::times` meets its contract: each part is multiplied by the factor.
 use Prim.Native.Nat.{ℕ}
-use mathlib.Core.Path.{ap, _∙_}
+use mathlib.Core.Path.{refl, ap, _∙_}
 use native.Mathlib.Omega.{arith}
 use borrow.Author.Needs.{needs}
 use Rattle.quadratic.specs.Fp2.{fp2}
@@ -22,9 +22,10 @@ returns : tie.Need-returns
 returns c =
     let scaled = c .before .scaled in (
       c .folded .ensures .0 ∙ scaled .ensures .0
-          ∙ ap (λ (n : ℕ). fp2 .mul (quadratic .embed n) (remainders (c .before .before .before .args .weight)))
+          ∙ ap (λ (n : ℕ). fp2 .mul (quadratic .embed n) (remainders (c .before .before .before .args .weight .product)))
           (c .before .before .new .ensures),
       omega (arith, scaled .ensures .1, c .folded .ensures .1),
+      refl,
     )
 
 pub times-spec : {M : Type 1} → statement M

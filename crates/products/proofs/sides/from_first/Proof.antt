@@ -1,5 +1,6 @@
 -- `products::sides::from_first` meets its contract: the measure is the number of ends not yet taken.
 use Prim.Native.Nat.{_-_}
+use native.Mathlib.Omega.{arith}
 use borrow.Author.Needs.{needs}
 use Rattle.products.proofs.sides.from_first.Statement.{statement}
 use Rattle.products.proofs.sides.from_first.Tie as tie
@@ -19,17 +20,19 @@ loop-holds c = search needs
 reach-requires : tie.Need-reach-requires Inv-loop μ-loop
 reach-requires c κs = search needs
 
-cast-to : tie.Need-cast-to Inv-loop μ-loop
-cast-to c = search needs
+cast-lowest : tie.Need-cast-lowest Inv-loop μ-loop
+cast-lowest c = search needs
+
+lowest-requires : tie.Need-lowest-requires Inv-loop μ-loop
+lowest-requires c κs = omega (arith, c .reach .ensures .1 .further, c .reach .ensures .1 .side .few)
 
 weigh-requires : tie.Need-weigh-requires Inv-loop μ-loop
-weigh-requires c κs = search needs
+weigh-requires c κs =
+    let reach = c .before .reach .ensures in
+    rw (reach .0) (c .lowest .ensures, reach .1)
 
-remainder-requires : tie.Need-remainder-requires Inv-loop μ-loop
-remainder-requires c κs = search needs
-
-element-requires : tie.Need-element-requires Inv-loop μ-loop
-element-requires c κs = search needs
+weight-requires : tie.Need-weight-requires Inv-loop μ-loop
+weight-requires c κs = search needs
 
 add-bits : tie.Need-add-bits Inv-loop μ-loop
 add-bits c = search needs
@@ -52,10 +55,10 @@ from-first-spec =
     add-bits-end
     loop-holds
     reach-requires
-    cast-to
+    cast-lowest
+    lowest-requires
     weigh-requires
-    remainder-requires
-    element-requires
+    weight-requires
     add-bits
     loop-less
     loop-again

@@ -1,0 +1,15 @@
+"""How many factors the weights of a key's cells and calls have, counted over its records and not over what they unroll to."""
+
+
+def bits(array):
+    """The row and the column bits of an array together."""
+    return array.row_bits + array.column_bits
+
+
+def factors(key):
+    """The sum over the key's arrays: k + k' for each cell, and (k - K) + (k' - K') for each call."""
+    count = 0
+    for array in key.arrays:
+        count += bits(array) * len(array.cells)
+        count += sum(bits(array) - bits(key.arrays[call.id]) for call in array.calls)
+    return count
