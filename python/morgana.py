@@ -215,24 +215,25 @@ class Quadratic(typing.NamedTuple):
 class Values:
     """A, B and C of a key's last array: numbers below p, or over p*p a
     Quadratic each; and how many factors the weights of the key's cells and
-    calls have, one for each coordinate.
+    calls have, one for each coordinate. Two are equal where A, B and C are,
+    whatever the keys' counts.
     """
 
     a: int | Quadratic
     b: int | Quadratic
     c: int | Quadratic
-    factors: int
+    factors: int = dataclasses.field(compare=False)
 
 
 @_answer
 class Compared:
     """What is found of two keys at a point, and how many factors both have
-    together, as Values counts them. It has no truth value of its own: `same`
-    is the field to ask.
+    together, as Values counts them; two are equal where `same` is. It has no
+    truth value of its own: `same` is the field to ask.
     """
 
     same: bool
-    factors: int
+    factors: int = dataclasses.field(compare=False)
 
     def __bool__(self):
         raise TypeError("Compared has no truth value: use .same")

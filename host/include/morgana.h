@@ -51,7 +51,7 @@
  * whether they are called or not, and the point plays no part. So the count is
  * at most (n + n') * (cells + calls), of what morgana_check answers. Where two
  * keys are compared, it is the sum of both keys' counts, with "same" and with
- * "different". Integrators size their machines by it.
+ * "different".
  *
  * Refusals. `number` says what is at fault: it is one of MorganaNumber, which
  * lists the numbers by who is at fault. `place` says where, and the number says

@@ -53,7 +53,7 @@
 //! and K' bits (k - K) + (k' - K'). The factor that a call of edition 2 has counts nothing, and over p² a coordinate
 //! counts one. The records of all arrays count, whether they are called or not, and the point plays no part. So the
 //! count is at most (n + n')·(cells + calls), of what [`check`] answers. Compare answers the sum of both keys' counts,
-//! with "same" and with "different". Integrators size their machines by it.
+//! with "same" and with "different".
 //!
 //! # Editions
 //!

@@ -17,7 +17,7 @@ EXAMPLES = 18
 
 
 def hold_answers(hold):
-    """Answers are equal where their fields are, are not changed, and are made by keyword."""
+    """Answers are equal where their fields are, counts of factors apart, are not changed, and are made by keyword."""
     counts = morgana.check(samples.OLD)
     hold.equal("the counts", COUNTS, dataclasses.asdict(counts))
     values = morgana.evaluate_quadratic(samples.OLD, *samples.PARTS)
@@ -31,7 +31,8 @@ def hold_answers(hold):
     for answer, field in (*named, (values, "factors"), (compared, "factors")):
         fields = {each.name: getattr(answer, each.name) for each in dataclasses.fields(answer)}
         hold.equal("an equal answer", type(answer)(**fields), answer)
-        hold.true("another answer", type(answer)(**{**fields, field: 7}) != answer)
+        other = type(answer)(**{**fields, field: 7})
+        hold.equal("another answer", field != "factors", other != answer)
         hold.equal("a pickled answer", answer, pickle.loads(pickle.dumps(answer)))
         hold.equal("its hash", hash(type(answer)(**fields)), hash(answer))
         hold.raises("a field set", dataclasses.FrozenInstanceError, setattr, answer, field, 1)

@@ -1,5 +1,7 @@
 """What is wanted, compared with what is got."""
 
+import dataclasses
+
 from .subject import morgana
 
 SHOWN = 1000
@@ -18,9 +20,15 @@ def shown(thing):
     return text if len(text) <= SHOWN else f"{text[: SHOWN // 2]} ... {text[-SHOWN // 2 :]}"
 
 
+def whole(thing):
+    """The thing; an answer with all its fields, also those by which answers are not compared."""
+    answer = dataclasses.is_dataclass(thing) and not isinstance(thing, type)
+    return (type(thing), dataclasses.asdict(thing)) if answer else thing
+
+
 def hold_equal(about, wanted, got):
     """Raises Failed where what is got is not what is wanted."""
-    if wanted != got:
+    if whole(wanted) != whole(got):
         raise Failed(f"{shown(about)}\nwanted: {shown(wanted)}\ngot: {shown(got)}")
 
 
