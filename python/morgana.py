@@ -40,13 +40,34 @@ Compared(same=True, factors=5)
 >>> float(morgana.likelihood(2, quadratic=True)) < 5e-19
 True
 
+Comparing. Any two accepted keys can be compared, also of different shapes. N
+is the larger of their row bits and N' the larger of their column bits, and the
+point has N row and N' column coordinates. The matrices of a key with fewer bits
+are read as filled with zeros up to 2^N rows and 2^N' columns, their own places
+being the first. This is the circuit of `new` with two rows more:
+
+>>> grown = bytes.fromhex(
+...     "010201 020201 04 00000000 01000000 0a000000 0e000000 00000000 06")
+>>> shape = morgana.check(old).larger_shape(morgana.check(grown))
+>>> shape
+(2, 1)
+>>> morgana.compare(old, grown, *morgana.random_point(*shape))
+Compared(same=True, factors=7)
+
+So each key is evaluated at the first n and the first n' coordinates, by its own
+head, and its A, B and C are multiplied by 1 - r for each coordinate r that it
+does not use. These are what is compared; a sheet has what was evaluated, not
+multiplied.
+
 Factors. These answers count the factors of the weights that a key's cells and
 calls have, one for each coordinate: k + k' for a cell of an array of k row and
 k' column bits, and (k - K) + (k' - K') for a call from such an array of one of
 K and K' bits. The sum is over all arrays, called or not. It is the same at
 every point and over both fields, and at most (n + n') * (cells + calls). Two
 keys that are compared have the sum of both: the cell and both calls of `old`
-count 1 each, and the cell of `new` counts 2.
+count 1 each, and the cell of `new` counts 2. Each coordinate that a key does
+not use counts one more, as the second row coordinate for `old` above. So it is
+at most (N + N') * (cells + calls of both keys) + 2 * (N + N').
 
 Sheets. A call works on a sheet of 32-bit numbers and leaves every array's
 numbers there. Where none is given, the module lends its own. A caller's sheet
@@ -103,7 +124,7 @@ __all__ = [
     "Number", "P", "KEY_LIMIT", "MOST_ARRAYS", "MOST_BITS", "SHEET", "SHEET_QUADRATIC", "FOLDER",
 ]
 
-__version__ = "0.4.0"
+__version__ = "0.5.0"
 
 # The folder of the installed library; empty in a module that is not installed.
 FOLDER = ""
@@ -140,13 +161,12 @@ class Number(enum.IntEnum):
     POSITION_TOO_GREAT = 11, "call position too great"
     LAST_SHAPE_WRONG = 12, "last array not of the head's shape"
     BYTES_AFTER_END = 13, "bytes after the end"
-    ROW_COUNT_WRONG = 21, "row count not n, or not 2n over p²"
-    COLUMN_COUNT_WRONG = 22, "column count not n', or not 2n' over p²"
+    ROW_COUNT_WRONG = 21, "row count not n (N for two keys, twice that over p²)"
+    COLUMN_COUNT_WRONG = 22, "column count not n' (N' for two keys, twice that over p²)"
     COORDINATE_TOO_GREAT = 23, "coordinate p or more"
     ADDRESS_OUTSIDE = 24, "row or column outside the last array"
     SHEET_TOO_SHORT = 31, "sheet below 3·arrays, or 6·arrays over p²"
     BUFFER_TOO_SHORT = 32, "copy doesn't fit the buffer"
-    SHAPES_DIFFER = 35, "shapes differ"
     FACTOR_NOT_ONE = 55, "a factor other than 1 on the way back"
     MOVED_TOO_LONG = 56, "moved key over 65,536 bytes"
 
@@ -163,8 +183,8 @@ class Refused(Exception):
     place     where: for 1 to 13 an offset in the key; for 21 and 22 the count
               of numbers received; for 23 the number's index, rows first; for
               24 0 for the row and 1 for the column; for 31 the length needed;
-              for 32 the copy's length; for 35 0; for 55 the offset of the
-              call; for 56 the moved key's length
+              for 32 the copy's length; for 55 the offset of the call; for
+              56 the moved key's length
     key       the key that a refused comparison names, 1 or 2, else None
     sentence  the condition in words
     """
@@ -203,6 +223,13 @@ class Counts:
     rows: int
     columns: int
 
+    def larger_shape(self, other):
+        """Answers N and N' of two keys that are compared: the larger of their
+        row bits and the larger of their column bits. They are what random_point
+        takes, and their sum is the m of likelihood.
+        """
+        return max(self.rows, other.rows), max(self.columns, other.columns)
+
 
 class Quadratic(typing.NamedTuple):
     """An element u + v*i of the field of p*p elements, where i*i is -1."""
@@ -228,8 +255,9 @@ class Values:
 @_answer
 class Compared:
     """What is found of two keys at a point, and how many factors both have
-    together, as Values counts them; two are equal where `same` is. It has no
-    truth value of its own: `same` is the field to ask.
+    together, as Values counts them, and one for each coordinate that a key does
+    not use; two are equal where `same` is. It has no truth value of its own:
+    `same` is the field to ask.
     """
 
     same: bool
@@ -282,7 +310,7 @@ def _chosen():
 
 
 def _version_text(number):
-    """The version that one number stands for, as 0.4.0."""
+    """The version that one number stands for, as 0.5.0."""
     return f"{number // 1_000_000}.{number // 1_000 % 1_000}.{number % 1_000}"
 
 
@@ -424,12 +452,15 @@ def cell(key, row, column, sheet=None):
 
 
 def compare(first, second, rows, columns, sheet=None):
-    """Answers whether evaluate gives the same A, B and C for two keys at a
-    point, as Compared. The sheet is then as after evaluating the first key and
-    then the second.
+    """Answers whether two keys have the same A, B and C at a point of N row and
+    N' column coordinates, each read as filled with zeros, as Compared.
+    Any two accepted keys are taken; N and N' are what Counts.larger_shape
+    answers. The sheet is then as after evaluating the first key at its own
+    first n and n' coordinates and then the second at its own.
 
     Refuses as check does for the first key, then for the second, and names the
-    key; then with 35, 21, 22, 23; then with 31 for the key with more arrays.
+    key; then with 21 and 22 by N and N'; then with 23; then with 31 for the key
+    with more arrays.
     """
     function = _library.morgana_compare
     reply = _accepted(_at_point(function, [first, second], rows, columns, sheet, SHEET))
@@ -455,9 +486,10 @@ def evaluate_quadratic(key, rows, columns, sheet=None):
 
 
 def compare_quadratic(first, second, rows, columns, sheet=None):
-    """Answers whether evaluate_quadratic gives the same A, B and C for two keys
-    at a point over p*p, as Compared. The sheet is then as after evaluating the
-    first key and then the second there.
+    """Answers what compare does at a point over p*p: 2N numbers for the rows and
+    2N' for the columns, u before v. The sheet is then as after
+    evaluate_quadratic of the first key at its own coordinates and then of the
+    second at its own.
 
     Refuses as compare does, with counts and places as evaluate_quadratic.
     """
@@ -491,8 +523,9 @@ def _between(name, number, least, most):
 
 def random_point(rows, columns, quadratic=False):
     """Answers row and column coordinates, two lists of numbers, for a key with
-    these row bits n and column bits n', as check answers them. Each point is
-    as likely as any other; the numbers come from the system's secure source.
+    these row bits n and column bits n', as check answers them, or for two keys
+    with N and N', as Counts.larger_shape answers them. Each point is as likely
+    as any other; the numbers come from the system's secure source.
 
     Raises ValueError for bits that are negative or over 30.
     """
@@ -503,9 +536,10 @@ def random_point(rows, columns, quadratic=False):
 
 def likelihood(m, points=1, quadratic=False):
     """Answers, as an exact Fraction, an upper bound on the probability that
-    keys that differ in a cell are found the same at so many independent random
-    points, for m row and column bits together:
-    (1 - ((q - 1) / q)**m)**points, where q is p, or p*p if quadratic.
+    keys that differ in a cell, the smaller filled with zeros, are found the
+    same at so many independent random points:
+    (1 - ((q - 1) / q)**m)**points, where q is p, or p*p if quadratic, and m is
+    N + N', the larger row bits and the larger column bits of the two keys.
 
     >>> likelihood(2)
     Fraction(4294967293, 4611686014132420609)

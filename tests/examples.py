@@ -23,6 +23,11 @@ FILES = {
     "cut": OLD[:40],
     "empty": b"",
     "zero": bytes.fromhex("010000 020000 06"),
+    # The circuit of new with more rows, with more columns, and with more rows and in the second of them.
+    "tall": bytes.fromhex("010201 020201 04 00000000 01000000 0a000000 0e000000 00000000 06"),
+    "wide": bytes.fromhex("010103 020101 04 00000000 01000000 0a000000 0e000000 00000000")
+    + bytes.fromhex("030103 05 0000 00000000 00000000 06"),
+    "displaced": bytes.fromhex("010201 020201 04 02000000 01000000 0a000000 0e000000 00000000 06"),
     "long": bytes(70000),
 }
 
@@ -36,8 +41,16 @@ RUNS = [
     (["old", "cut"], 2, "refused 2 at 30"),
     (["cut", "empty"], 2, "refused 2 at 30"),
     (["old", "empty"], 2, "refused 2 at 0"),
-    (["old", "zero"], 2, "refused 35 at 0"),
-    (["zero", "old"], 2, "refused 35 at 0"),
+    (["old", "zero"], 1, "different"),
+    (["zero", "old"], 1, "different"),
+    (["old", "tall"], 0, "same"),
+    (["wide", "old"], 0, "same"),
+    (["tall", "wide"], 0, "same"),
+    (["wide", "tall"], 0, "same"),
+    (["old", "displaced"], 1, "different"),
+    (["displaced", "wide"], 1, "different"),
+    (["tall", "cut"], 2, "refused 2 at 30"),
+    (["cut", "tall"], 2, "refused 2 at 30"),
     (["long", "old"], 2, "refused 1 at 65536"),
     (["old", "absent"], 3, ""),
     (["absent", "old"], 3, ""),

@@ -1,7 +1,7 @@
-/* compare FIRST SECOND: compares two key files at a random point over p*p.
- * Prints `same`, `different` or `refused N at P`, with the key at fault behind
- * it. The status is 0, 1 or 2, and 3 where anything else is wrong. Compile it
- * with the shared or with the static library:
+/* compare FIRST SECOND: compares two key files, of any shapes, at a random
+ * point over p*p. Prints `same`, `different` or `refused N at P`, with the key
+ * at fault behind it. The status is 0, 1 or 2, and 3 where anything else is
+ * wrong. Compile it with the shared or with the static library:
  *
  *   cc compare.c -o compare $(pkg-config --cflags --libs morgana)
  *   cc compare.c -o compare $(pkg-config --cflags morgana) \
@@ -37,6 +37,11 @@ static void draw(uint32_t *numbers, size_t count)
         } while (numbers[i] == MORGANA_P);
 }
 
+static size_t larger(size_t one, size_t other)
+{
+    return one > other ? one : other;
+}
+
 int main(int argc, char **argv)
 {
     static const char *const at_fault[] = {"", "; first key", "; second key"};
@@ -50,13 +55,17 @@ int main(int argc, char **argv)
     size_t first_length = read_key(argv[1], first);
     size_t second_length = read_key(argv[2], second);
 
-    /* Where the first key is refused, it has no bits, and is refused again. */
-    MorganaCheckReply bits = morgana_check(first, first_length);
-    draw(rows, 2 * bits.rows);
-    draw(columns, 2 * bits.columns);
+    /* A point has the larger bits of the two keys, and two numbers a
+     * coordinate. A key that is refused has no bits, and is refused again. */
+    MorganaCheckReply one = morgana_check(first, first_length);
+    MorganaCheckReply other = morgana_check(second, second_length);
+    size_t rows_length = 2 * larger(one.rows, other.rows);
+    size_t columns_length = 2 * larger(one.columns, other.columns);
+    draw(rows, rows_length);
+    draw(columns, columns_length);
     MorganaCompareReply reply = morgana_compare_quadratic(
-        first, first_length, second, second_length, rows, 2 * bits.rows,
-        columns, 2 * bits.columns, sheet, MORGANA_SHEET_QUADRATIC);
+        first, first_length, second, second_length, rows, rows_length,
+        columns, columns_length, sheet, MORGANA_SHEET_QUADRATIC);
 
     if (reply.number == MORGANA_NOT_REFUSED)
         puts(reply.same ? "same" : "different");

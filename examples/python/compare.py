@@ -1,4 +1,4 @@
-"""Compares two circuit keys at one random point over p*p.
+"""Compares two circuit keys, of any shapes, at one random point over p*p.
 
     python3 compare.py OLD NEW
 
@@ -26,19 +26,18 @@ def read(path):
         return file.read(morgana.KEY_LIMIT + 1)
 
 
-def shape(key):
-    """n and n' of the first key."""
+def checked(key, which):
+    """The counts of the first key or of the second."""
     try:
-        counts = morgana.check(key)
+        return morgana.check(key)
     except morgana.Refused as refusal:
-        # Check has one key and names none; here it is the first.
-        raise morgana.Refused(refusal.number, refusal.place, 1) from None
-    return counts.rows, counts.columns
+        # Check has one key and names none.
+        raise morgana.Refused(refusal.number, refusal.place, which) from None
 
 
 def compare(old, new):
     """Prints what is found of two keys, and returns the status."""
-    bits = shape(old)
+    bits = checked(old, 1).larger_shape(checked(new, 2))
     rows, columns = morgana.random_point(*bits, quadratic=True)
     if not morgana.compare_quadratic(old, new, rows, columns).same:
         print("different")

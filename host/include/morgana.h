@@ -26,13 +26,24 @@
  *
  * The fields. p = 2147483647, and a number of the field is 0 to p - 1. A point
  * is n row coordinates and n' column coordinates below p, where n and n' are
- * the row bits and the column bits of the key's head.
+ * the row bits and the column bits of the key's head; for two keys N and N' of
+ * them, as 'Comparing' says.
  *
  * For the calls whose names end in _quadratic a coordinate is an element
  * u + v*i of the field of p*p elements, where i*i is -1: two numbers below p, u
  * first. So is each A, B and C: an array has six numbers on the sheet, u and v
  * of A, of B and of C. At a point with every v zero, every u is what the call
  * over p gives, and every v is zero.
+ *
+ * Comparing. Any two accepted keys can be compared, also of different shapes. N
+ * is the larger of their row bits and N' the larger of their column bits, and
+ * the point has N row and N' column coordinates. The matrices of a key with
+ * fewer bits are read as filled with zeros up to 2^N rows and 2^N' columns,
+ * their own places being the first. So each key is evaluated at the first n and
+ * the first n' coordinates, by its own head, and its A, B and C are multiplied
+ * by 1 - r for each coordinate r that it does not use. These are what is
+ * compared; the sheet has what was evaluated, not multiplied. Keys of one shape
+ * use all coordinates.
  *
  * Sheets. A call needs three places of its sheet, over p*p six, for each array
  * of the key. Where it compares two keys, it needs them for each array of the
@@ -50,8 +61,10 @@
  * and over p*p a coordinate counts one. The records of all arrays count,
  * whether they are called or not, and the point plays no part. So the count is
  * at most (n + n') * (cells + calls), of what morgana_check answers. Where two
- * keys are compared, it is the sum of both keys' counts, with "same" and with
- * "different".
+ * keys are compared, it is the sum of both keys' counts and, for each key, of
+ * the coordinates that it does not use, (N - n) + (N' - n') of them; it comes
+ * with "same" and with "different", and is at most
+ * (N + N') * (cells + calls of both keys) + 2 * (N + N').
  *
  * Refusals. `number` says what is at fault: it is one of MorganaNumber, which
  * lists the numbers by who is at fault. `place` says where, and the number says
@@ -78,7 +91,7 @@ extern "C" {
 
 /* The version that this header belongs to, and all of it as one number. */
 #define MORGANA_VERSION_MAJOR 0
-#define MORGANA_VERSION_MINOR 4
+#define MORGANA_VERSION_MINOR 5
 #define MORGANA_VERSION_PATCH 0
 #define MORGANA_VERSION                                                        \
     (1000000 * MORGANA_VERSION_MAJOR + 1000 * MORGANA_VERSION_MINOR +          \
@@ -145,9 +158,11 @@ typedef enum MorganaNumber {
 
     /* Sender of the point. */
 
-    /* row count not n (_quadratic: not 2n numbers); the count received */
+    /* row count not n, or N of two keys (_quadratic: not twice as many
+     * numbers); the count received */
     MORGANA_ROW_COUNT_WRONG = 21,
-    /* column count not n' (_quadratic: not 2n' numbers); likewise */
+    /* column count not n', or N' of two keys (_quadratic: not twice as many
+     * numbers); likewise */
     MORGANA_COLUMN_COUNT_WRONG = 22,
     /* coordinate p or more; its index, rows first (_quadratic: the number's) */
     MORGANA_COORDINATE_TOO_GREAT = 23,
@@ -160,8 +175,6 @@ typedef enum MorganaNumber {
     MORGANA_SHEET_TOO_SHORT = 31,
     /* copy doesn't fit the buffer; the copy's length */
     MORGANA_BUFFER_TOO_SHORT = 32,
-    /* shapes differ; 0 */
-    MORGANA_SHAPES_DIFFER = 35,
 
     /* Who moves a key. */
 
@@ -211,7 +224,7 @@ typedef struct MorganaCompareReply {
     uint64_t place;   /* the place of the refusal, or 0 */
     uint32_t key;     /* the key at fault: 1 first, 2 second, 0 neither */
     uint32_t same;    /* 1 for "same", 0 for "different" */
-    uint64_t factors; /* both keys' counts of factors; 0 where it is refused */
+    uint64_t factors; /* the count of factors of both; 0 where it is refused */
 } MorganaCompareReply;
 
 /* What morgana_move answers. */
@@ -248,12 +261,14 @@ MorganaEvaluateReply morgana_cell(const uint8_t *key, size_t key_length,
                                   uint32_t row, uint32_t column,
                                   uint32_t *sheet, size_t sheet_length);
 
-/* Answers "same" if the A, B and C that morgana_evaluate answers for the first
- * key at a point equal those for the second, else "different", and the sum of
- * both counts of factors; the sheet is then as after evaluating the first key
- * and then the second. Refuses as morgana_check does for the first key, then
- * for the second, and `key` says which; then with 35, 21, 22, 23, and 31 for
- * the key with more arrays, where `key` is 0. */
+/* Answers "same" if two keys of any shapes, each read as filled with zeros,
+ * have the same A, B and C at a point of N row and N' column coordinates, else
+ * "different", and the count of factors of both. Keys of one
+ * shape are "same" if morgana_evaluate answers equal A, B and C for both. The
+ * sheet is then as after evaluating the first key at its own first n and n'
+ * coordinates and then the second at its own. Refuses as morgana_check does for
+ * the first key, then for the second, and `key` says which; then with 21 and 22
+ * by N and N', 23, and 31 for the key with more arrays, where `key` is 0. */
 MorganaCompareReply morgana_compare(const uint8_t *first, size_t first_length,
                                     const uint8_t *second, size_t second_length,
                                     const uint32_t *rows, size_t rows_length,
@@ -271,10 +286,10 @@ morgana_evaluate_quadratic(const uint8_t *key, size_t key_length,
                            const uint32_t *columns, size_t columns_length,
                            uint32_t *sheet, size_t sheet_length);
 
-/* Answers "same" if the A, B and C that morgana_evaluate_quadratic answers for
- * the first key at a point equal those for the second, else "different", and
- * the sum of both counts of factors; the sheet is then as after evaluating the
- * first key and then the second. Refuses as morgana_compare does. */
+/* The same over p*p: the point has 2N numbers for the rows and 2N' for the
+ * columns, and the sheet is then as after morgana_evaluate_quadratic on the
+ * first key at its own coordinates and then on the second at its own. Refuses
+ * as morgana_compare does, with 21 and 22 by 2N and 2N'. */
 MorganaCompareReply
 morgana_compare_quadratic(const uint8_t *first, size_t first_length,
                           const uint8_t *second, size_t second_length,

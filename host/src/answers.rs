@@ -21,6 +21,22 @@ pub struct Counts {
     pub columns: u32,
 }
 
+impl Counts {
+    /// N and N' of two keys that are compared: the larger of their row bits, and the larger of their column bits. They
+    /// are what [`RandomPoints::new`](crate::RandomPoints::new) takes, and their sum is the m of
+    /// [`Likelihood`](crate::Likelihood).
+    ///
+    /// ```
+    /// let (tall, wide) = ([1, 3, 0, 2, 3, 0, 6], [1, 1, 2, 2, 1, 2, 6]);
+    /// let (first, second) = (morgana::check(&tall)?, morgana::check(&wide)?);
+    /// assert_eq!(first.larger_shape(second), (3, 2));
+    /// # Ok::<(), morgana::Refusal>(())
+    /// ```
+    pub fn larger_shape(self, other: Counts) -> (u32, u32) {
+        (self.rows.max(other.rows), self.columns.max(other.columns))
+    }
+}
+
 /// What evaluate and cell answer: the values of the key's last array, and how many factors the key has. Later versions
 /// may add fields.
 ///
@@ -76,8 +92,9 @@ pub struct QuadraticValues {
 #[derive(Debug, Clone, Copy)]
 #[non_exhaustive]
 pub struct Compared {
-    /// Whether the keys have the same A, the same B and the same C there.
+    /// Whether the keys have the same A, the same B and the same C there, each read as filled with zeros up to the larger shape.
     pub same: bool,
-    /// The sum of both keys' [counts of factors](crate#factors), whether they are the same there or not.
+    /// The [count of factors](crate#factors) of both keys, whether they are the same there or not: at most
+    /// (N + N')·(cells + calls of both) + 2·(N + N').
     pub factors: u64,
 }

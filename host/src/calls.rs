@@ -96,11 +96,30 @@ pub fn cell(
     })
 }
 
-/// Answers whether two keys of one shape have the same A, B and C at a point and the sum of both counts of factors, the
-/// sheet as after evaluating the first and then the second; or refuses as check does, naming the key, or with 35, 21,
-/// 22, 23 or 31. The sheet needs three places for each array of the key with more arrays.
+/// Answers whether two keys have the same A, B and C at a point, each [read as filled with zeros](crate#comparing), and the count of factors of both; or refuses as check does for the first key and then for the second, naming the key,
+/// or with 21, 22, 23 or 31, naming neither.
+///
+/// Any two accepted keys are taken. The point has N row coordinates (else 21) and N' column coordinates (else 22), the
+/// larger bits of the two keys: [`Counts::larger_shape`]. The sheet is then as after evaluating the first key at its own
+/// coordinates and then the second at its own; it needs three places for each array of the key with more arrays (else 31).
 ///
 /// "Different" is certain; how sure "same" is at random points, [`Likelihood`](crate::Likelihood) says.
+///
+/// ```
+/// let small = [
+///     1, 0, 0, // head: no bits
+///     2, 0, 0, // a sparse array of that shape
+///     4, 0, 0, 0, 0, 0, 0, 0, 0, 5, 0, 0, 0, 7, 0, 0, 0, 0, 0, 0, 0, // a cell: A 5, B 7, C 0
+///     6, // end
+/// ];
+/// let mut grown = small;
+/// (grown[1], grown[4]) = (1, 1); // one row bit, and so a second row, of zeros
+///
+/// let compared = morgana::compare(&small, &grown, &[3], &[], &mut [0; 3])?;
+/// assert!(compared.same);
+/// assert_eq!(compared.factors, 2); // of the coordinate that the first key does not use, and of the second key's cell
+/// # Ok::<(), morgana::CompareRefusal>(())
+/// ```
 pub fn compare(
     first: &[u8],
     second: &[u8],
@@ -162,10 +181,10 @@ pub fn evaluate_quadratic(
     Ok(Evaluated { values, factors })
 }
 
-/// Answers whether two keys of one shape have the same A, B and C at a point whose coordinates are two numbers each,
-/// and the sum of both counts of factors, the sheet as after evaluating the first and then the second there; or refuses
-/// as compare does, counting numbers as evaluate_quadratic does. The sheet needs six places for each array of the key
-/// with more arrays.
+/// Answers what compare does, at a point whose coordinates are two numbers each: 2N for the rows and 2N' for the columns.
+/// The sheet is then as after evaluate_quadratic of the first key at its own coordinates and then of the second at its
+/// own; it needs six places for each array of the key with more arrays. Refuses as compare does, counting numbers as
+/// evaluate_quadratic does.
 pub fn compare_quadratic(
     first: &[u8],
     second: &[u8],

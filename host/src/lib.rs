@@ -37,6 +37,16 @@
 //! elements, where i² = -1: two numbers, u and then v. [`RandomPoints`] draws points, and
 //! [`Likelihood`] says how sure "same" is at so many of them.
 //!
+//! # Comparing
+//!
+//! Any two accepted keys can be compared, also of different shapes. N is the larger of their row
+//! bits and N' the larger of their column bits, as [`Counts::larger_shape`] answers them, and the
+//! point has N row and N' column coordinates. The matrices of a key with fewer bits are read as
+//! filled with zeros up to 2^N rows and 2^N' columns, their own places being the first. So each key
+//! is evaluated at the first n and the first n' coordinates, by its own head, and its A, B and C
+//! are multiplied by 1 - r for each coordinate r that it does not use. These are what is compared;
+//! the sheet has what was evaluated, not multiplied. Keys of one shape use all coordinates.
+//!
 //! # Sheets
 //!
 //! A sheet is a slice that every array's values are written into: array i's A, B and C at 3i,
@@ -52,8 +62,9 @@
 //! coordinate: a cell in an array of k row bits and k' column bits has k + k', and a call from such an array of one of K
 //! and K' bits (k - K) + (k' - K'). The factor that a call of edition 2 has counts nothing, and over p² a coordinate
 //! counts one. The records of all arrays count, whether they are called or not, and the point plays no part. So the
-//! count is at most (n + n')·(cells + calls), of what [`check`] answers. Compare answers the sum of both keys' counts,
-//! with "same" and with "different".
+//! count is at most (n + n')·(cells + calls), of what [`check`] answers. Compare answers the sum of both keys' counts
+//! and, for each key, of the coordinates that it does not use, (N - n) + (N' - n') of them, with "same" and with
+//! "different": at most (N + N')·(cells + calls of both keys) + 2·(N + N').
 //!
 //! # Editions
 //!

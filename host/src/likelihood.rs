@@ -9,11 +9,11 @@ const WANTED: f64 = -80.0;
 /// The decimal exponent of the least bound that is printed.
 const LEAST: f64 = -38.0;
 
-/// An upper bound on the probability that two keys of one shape that differ in a cell are found
-/// the same at every one of some random points.
+/// An upper bound on the probability that two keys that differ in a cell, the smaller filled with
+/// zeros, are found the same at every one of some random points.
 ///
-/// With m row and column bits together and a field of q elements it is
-/// (1 - ((q - 1) / q)^m)^points. For one point this is the proved agreement bound,
+/// With m = N + N', the larger row bits and the larger column bits of the two keys, and a field of
+/// q elements it is (1 - ((q - 1) / q)^m)^points. For one point this is the proved agreement bound,
 /// (q^m - (q - 1)^m) / q^m. It holds where each point is as likely as any other, independent of
 /// those before and of both keys: as [`RandomPoints`](crate::RandomPoints) draws them once both
 /// keys are fixed.
@@ -34,7 +34,7 @@ pub struct Likelihood {
 }
 
 impl Likelihood {
-    /// The bound for keys with m = n + n' bits and so many points from a field.
+    /// The bound for keys with m = N + N' bits and so many points from a field.
     pub fn new(field: Field, m: u32, points: u32) -> Likelihood {
         let (m, points) = (f64::from(m), f64::from(points));
         if points == 0.0 {

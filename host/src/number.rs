@@ -28,9 +28,9 @@ pub const POSITION_TOO_GREAT: u32 = 11;
 pub const LAST_SHAPE_WRONG: u32 = 12;
 /// There are bytes after the end.
 pub const BYTES_AFTER_END: u32 = 13;
-/// The point has not n row coordinates.
+/// The point has not n row coordinates, or N for two keys.
 pub const ROW_COUNT_WRONG: u32 = 21;
-/// The point has not n' column coordinates.
+/// The point has not n' column coordinates, or N' for two keys.
 pub const COLUMN_COUNT_WRONG: u32 = 22;
 /// A coordinate is p or more.
 pub const COORDINATE_TOO_GREAT: u32 = 23;
@@ -40,8 +40,6 @@ pub const ADDRESS_OUTSIDE: u32 = 24;
 pub const SHEET_TOO_SHORT: u32 = 31;
 /// The copy of a key does not fit the buffer.
 pub const BUFFER_TOO_SHORT: u32 = 32;
-/// The two keys are not of one shape.
-pub const SHAPES_DIFFER: u32 = 35;
 /// A key of edition 2 that is to be moved has a factor other than 1.
 pub const FACTOR_NOT_ONE: u32 = 55;
 /// The moved key would have over 65,536 bytes.

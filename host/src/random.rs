@@ -9,8 +9,8 @@ use std::io::{self, Read};
 /// The file that the operating system's randomness is read from.
 const SOURCE: &str = "/dev/urandom";
 
-/// A source of random points for keys of one shape, each point as likely as any other and
-/// independent of those before.
+/// A source of random points for a key, or for two that are compared, each point as likely as any
+/// other and independent of those before.
 ///
 /// [`Likelihood`](crate::Likelihood) speaks of points that are drawn when both keys are fixed:
 /// who knows a point beforehand can make different keys that are the same there.
@@ -36,7 +36,8 @@ pub struct RandomPoints {
 
 impl RandomPoints {
     /// A source of points with n row coordinates and n' column coordinates from a field, where
-    /// `rows` is n and `columns` is n' as [`check`](crate::check) answers them. The error is that
+    /// `rows` is n and `columns` is n' as [`check`](crate::check) answers them; for two keys N and
+    /// N', as [`Counts::larger_shape`](crate::Counts::larger_shape) answers them. The error is that
     /// of opening `/dev/urandom`, or of bits over [`MOST_BITS`], which no key has.
     pub fn new(rows: u32, columns: u32, field: Field) -> io::Result<RandomPoints> {
         if rows.max(columns) > MOST_BITS {

@@ -82,7 +82,7 @@ pub struct CompareReply {
     pub key: u32,
     /// 1 where the answer is "same", else 0.
     pub same: u32,
-    /// The sum of both keys' counts of factors.
+    /// The count of factors of both keys.
     pub factors: u64,
 }
 

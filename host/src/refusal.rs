@@ -22,20 +22,20 @@ use std::fmt::{Display, Formatter, Result};
 /// | 12 | last array not of the head's shape | offset of the end |
 /// | 13 | bytes after the end | offset of the first |
 /// | | **sender of the point** | |
-/// | 21 | row count not n (over p²: not 2n numbers) | the count received |
-/// | 22 | column count not n' (over p²: not 2n' numbers) | the count received |
+/// | 21 | row count not n, or N of two keys (over p²: not twice as many numbers) | the count received |
+/// | 22 | column count not n', or N' of two keys (over p²: not twice as many numbers) | the count received |
 /// | 23 | coordinate p or more | its index, rows first (over p²: the number's) |
 /// | 24 | row or column outside the last array | 0 for the row, 1 for the column |
 /// | | **calling program** | |
 /// | 31 | sheet below 3·arrays (over p²: 6·arrays) | the length needed |
 /// | 32 | copy doesn't fit the buffer | the copy's length |
-/// | 35 | shapes differ | 0 |
 /// | | **who moves a key** | |
 /// | 55 | a factor other than 1 on the way back | offset of its call |
 /// | 56 | moved key over 65,536 bytes | its length |
 ///
-/// The numbers have names in [`number`](crate::number). Of several refusals the first is answered: check's own, then 35
-/// for compare, then 21, 22 and 23, or 24 for cell, then 31; for moved check's own, then 55, 56 and 32.
+/// The numbers have names in [`number`](crate::number). Of several refusals the first is answered: check's own, for
+/// compare the first key's and then the second's, then 21, 22 and 23, or 24 for cell, then 31; for moved check's own,
+/// then 55, 56 and 32.
 ///
 /// ```compile_fail
 /// let refusal = morgana::Refusal { number: 2, place: 0 };
@@ -66,8 +66,8 @@ impl Refusal {
             (11, _) => "call position too great",
             (12, _) => "last array not of the head's shape",
             (13, _) => "bytes after the end",
-            (21, _) => "row count not n, or not 2n over p²",
-            (22, _) => "column count not n', or not 2n' over p²",
+            (21, _) => "row count not n (N for two keys, twice that over p²)",
+            (22, _) => "column count not n' (N' for two keys, twice that over p²)",
             (23, _) => "coordinate p or more",
             (24, 0) => "row outside the last array",
             (24, _) => "column outside the last array",
@@ -75,7 +75,6 @@ impl Refusal {
             (32, _) => "copy doesn't fit the buffer",
             (33, _) => "offset greater than the slice's length",
             (34, _) => "field operand p or more",
-            (35, _) => "shapes differ",
             (41, _) => "input shorter than its two counts and their coordinates",
             (42, _) => "input over 65,536 bytes",
             (55, _) => "a factor other than 1 on the way back",
@@ -101,7 +100,7 @@ pub enum Which {
     First,
     /// The second key is at fault.
     Second,
-    /// Both keys are accepted; their shapes, the point or the sheet are at fault.
+    /// Both keys are accepted; the point or the sheet is at fault.
     Neither,
 }
 
@@ -138,7 +137,7 @@ mod tests {
 
     #[test]
     fn each_number_of_the_library_has_its_own_sentence() {
-        let numbers = [1..=13, 21..=24, 31..=35, 41..=42, 55..=56];
+        let numbers = [1..=13, 21..=24, 31..=34, 41..=42, 55..=56];
         let sentences: Vec<_> = numbers
             .into_iter()
             .flatten()
@@ -179,6 +178,9 @@ mod tests {
             print(Which::Second, 3),
             "refused 3 at 0: unknown kind; second key"
         );
-        assert_eq!(print(Which::Neither, 35), "refused 35 at 0: shapes differ");
+        assert_eq!(
+            print(Which::Neither, 23),
+            "refused 23 at 0: coordinate p or more"
+        );
     }
 }

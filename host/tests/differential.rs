@@ -12,21 +12,25 @@ mod lent;
 mod held;
 #[path = "differential/moved.rs"]
 mod moved;
+#[path = "differential/relation.rs"]
+mod relation;
 
 use archive::Served;
 use cases::{outcomes, run};
 use generator::damage::{damaged, mostly_damaged};
+use generator::grown::{larger, pair};
 use generator::inputs::{address, sheet, short_sheet, Drawn, Point};
 use generator::keys::any;
 use generator::moves::{buffer, to_move};
 use generator::path::{end_of, path};
 use generator::random::Random;
-use generator::variants::{arrays, second, shape};
+use generator::variants::{arrays, shape};
 use held::{cell_case, check_case, compare_case, evaluate_case};
 use independent::edition;
 use independent::field::{Field, Fp, Quadratic};
 use independent::record::{bytes, Record};
 use moved::move_case;
+use relation::relation;
 
 /// Check: the counts or the refusal, on whole and damaged keys.
 #[test]
@@ -108,19 +112,26 @@ fn compare_agrees_over<F: Served + Drawn>() {
     let numbers = [
         ("first", 1..=13),
         ("second", 1..=13),
-        ("neither", 35..=35),
         ("neither", 21..=23),
         ("neither", 31..=31),
     ];
+    let found = |word| relation::ALL.map(|relation| format!("{word}{relation}"));
+    let named = ["same", "same at zero", "different"].map(found).concat();
+    let named: Vec<&str> = named.iter().map(String::as_str).collect();
     run(
         &format!("compare{}", F::SUFFIX),
         25_000,
-        &outcomes(&["same", "same at zero", "different"], &numbers),
+        &outcomes(&named, &numbers),
         |random| {
-            let first = any(random);
-            let second = second(random, &first);
+            let [first, second] = pair(random);
             let keys = [mostly_whole(random, &first), mostly_whole(random, &second)];
-            let point = mostly_fitting_point::<F>(random, shape(&first));
+            let bits = match random.below(12) {
+                // Those of one of the keys, which the other may pass.
+                0 => shape(&first),
+                1 => shape(&second),
+                _ => larger(&first, &second),
+            };
+            let point = mostly_fitting_point::<F>(random, bits);
             let arrays = [arrays(&first), arrays(&second)];
             let sheet = if random.chance(6) {
                 // Long enough for one of the keys at most.
@@ -128,7 +139,11 @@ fn compare_agrees_over<F: Served + Drawn>() {
             } else {
                 mostly_long_sheet::<F>(random, arrays[0].max(arrays[1]))
             };
-            compare_case::<F>(random, &keys, &point, &sheet)
+            let mut case = compare_case::<F>(random, &keys, &point, &sheet);
+            if named.contains(&case.outcome.as_str()) {
+                case.outcome += relation(&keys);
+            }
+            case
         },
     );
 }

@@ -16,6 +16,8 @@ mod factors;
 mod fields;
 #[path = "edges/full.rs"]
 mod full;
+#[path = "edges/grown.rs"]
+mod grown;
 #[path = "edges/inputs.rs"]
 mod inputs;
 #[path = "edges/moves.rs"]
@@ -24,6 +26,8 @@ mod moves;
 mod quadratics;
 #[path = "edges/records.rs"]
 mod records;
+#[path = "edges/shapes.rs"]
+mod shapes;
 #[path = "edges/slices.rs"]
 mod slices;
 #[path = "edges/starred.rs"]

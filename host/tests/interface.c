@@ -232,6 +232,20 @@ static const uint8_t single[] = {
 };
 static const uint8_t unknown[] = {9};
 
+/* The matrices of `single` filled with zeros to the sample's shape, and with their place in row 1. */
+static const uint8_t grown[] = {
+    1, 1, 1,
+    2, 1, 1,
+    4, 0, 0, 0, 0, 0, 0, 0, 0, 1, 0, 0, 0, 2, 0, 0, 0, 3, 0, 0, 0,
+    6,
+};
+static const uint8_t displaced[] = {
+    1, 1, 1,
+    2, 1, 1,
+    4, 1, 0, 0, 0, 0, 0, 0, 0, 1, 0, 0, 0, 2, 0, 0, 0, 3, 0, 0, 0,
+    6,
+};
+
 static const uint32_t three[] = {3}, four[] = {4, 4}, prime[] = {MORGANA_P};
 
 /* The coordinates i and -1 - i, 3 and 4 with v zero, and one whose v is p. */
@@ -262,7 +276,6 @@ static void numbers(void)
     NUMBER(MORGANA_ADDRESS_OUTSIDE, 24);
     NUMBER(MORGANA_SHEET_TOO_SHORT, 31);
     NUMBER(MORGANA_BUFFER_TOO_SHORT, 32);
-    NUMBER(MORGANA_SHAPES_DIFFER, 35);
     NUMBER(MORGANA_FACTOR_NOT_ONE, 55);
     NUMBER(MORGANA_MOVED_TOO_LONG, 56);
 }
@@ -483,8 +496,32 @@ static void compare_calls(void)
     COMPARE(sample, LENGTH, sample, 52, NULL, 0, NULL, 0, 0,
             REFUSED(MORGANA_RECORD_INCOMPLETE, 52), .key = 2);
     UNTOUCHED();
+    /* `single` does not use the row and the column coordinate, which count 1 each. The sheet has its
+     * numbers as they are; what is compared is 6 times those. */
+    COMPARE(single, sizeof single, grown, sizeof grown, three, 1, four, 1, PLACES,
+            0, 0, 0, 1, 2 + 2);
+    SHEET(6, 12, 18);
+    COMPARE(grown, sizeof grown, single, sizeof single, three, 1, four, 1, 3, 0, 0, 0, 1, 2 + 2);
+    SHEET(1, 2, 3);
+    COMPARE(single, sizeof single, displaced, sizeof displaced, three, 1, four, 1, PLACES,
+            0, 0, 0, 0, 2 + 2);
+    SHEET(2147483638, 2147483629, 2147483620);
+    COMPARE(sample, LENGTH, single, sizeof single, three, 1, four, 1, PLACES,
+            0, 0, 0, 0, FACTORS + 2);
+    SHEET(1, 2, 3, 2147483567, 2147483535, 0);
+    COMPARE(single, sizeof single, sample, LENGTH, three, 1, four, 1, 6, 0, 0, 0, 0, FACTORS + 2);
+    SHEET(20, 28, 0, 2147483567, 2147483535, 0);
     COMPARE(sample, LENGTH, single, sizeof single, NULL, 0, NULL, 0, 0,
-            REFUSED(MORGANA_SHAPES_DIFFER, 0));
+            REFUSED(MORGANA_ROW_COUNT_WRONG, 0));
+    UNTOUCHED();
+    COMPARE(single, sizeof single, sample, LENGTH, prime, 1, NULL, 0, 0,
+            REFUSED(MORGANA_COLUMN_COUNT_WRONG, 0));
+    UNTOUCHED();
+    COMPARE(single, sizeof single, sample, LENGTH, three, 1, prime, 1, 0,
+            REFUSED(MORGANA_COORDINATE_TOO_GREAT, 1));
+    UNTOUCHED();
+    COMPARE(single, sizeof single, sample, LENGTH, three, 1, four, 1, 5,
+            REFUSED(MORGANA_SHEET_TOO_SHORT, 6));
     UNTOUCHED();
     COMPARE(sample, LENGTH, empty, sizeof empty, four, 2, NULL, 0, 0,
             REFUSED(MORGANA_ROW_COUNT_WRONG, 2));
@@ -566,8 +603,30 @@ static void compare_quadratic_calls(void)
     COMPARE_QUADRATIC(sample, LENGTH, sample, 52, NULL, 0, NULL, 0, 0,
                       REFUSED(MORGANA_RECORD_INCOMPLETE, 52), .key = 2);
     UNTOUCHED();
-    COMPARE_QUADRATIC(sample, LENGTH, single, sizeof single, NULL, 0, NULL, 0, 0,
-                      REFUSED(MORGANA_SHAPES_DIFFER, 0));
+    /* What is compared of `single` is (1 - i) * (2 + i) times its numbers: 3 - i times those. */
+    COMPARE_QUADRATIC(single, sizeof single, grown, sizeof grown, imaginary, 2, greatest, 2, PLACES,
+                      0, 0, 0, 1, 2 + 2);
+    SHEET(3, 2147483646, 6, 2147483645, 9, 2147483644);
+    COMPARE_QUADRATIC(grown, sizeof grown, single, sizeof single, imaginary, 2, greatest, 2, 6,
+                      0, 0, 0, 1, 2 + 2);
+    SHEET(1, 0, 2, 0, 3, 0);
+    COMPARE_QUADRATIC(displaced, sizeof displaced, single, sizeof single, imaginary, 2, greatest, 2,
+                      PLACES, 0, 0, 0, 0, 2 + 2);
+    SHEET(1, 0, 2, 0, 3, 0);
+    COMPARE_QUADRATIC(sample, LENGTH, single, sizeof single, imaginary, 2, greatest, 2, PLACES,
+                      0, 0, 0, 0, FACTORS + 2);
+    SHEET(1, 0, 2, 0, 3, 0, 2147483627, 0, 2147483619, 0, 0, 0);
+    COMPARE_QUADRATIC(single, sizeof single, sample, LENGTH, NULL, 0, NULL, 0, 0,
+                      REFUSED(MORGANA_ROW_COUNT_WRONG, 0));
+    UNTOUCHED();
+    COMPARE_QUADRATIC(single, sizeof single, sample, LENGTH, v_prime, 2, four, 1, 0,
+                      REFUSED(MORGANA_COLUMN_COUNT_WRONG, 1));
+    UNTOUCHED();
+    COMPARE_QUADRATIC(sample, LENGTH, single, sizeof single, imaginary, 2, v_prime, 2, 0,
+                      REFUSED(MORGANA_COORDINATE_TOO_GREAT, 3));
+    UNTOUCHED();
+    COMPARE_QUADRATIC(single, sizeof single, sample, LENGTH, imaginary, 2, greatest, 2, 11,
+                      REFUSED(MORGANA_SHEET_TOO_SHORT, 12));
     UNTOUCHED();
     COMPARE_QUADRATIC(sample, LENGTH, empty, sizeof empty, three, 1, NULL, 0, 0,
                       REFUSED(MORGANA_ROW_COUNT_WRONG, 1));

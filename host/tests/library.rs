@@ -198,15 +198,46 @@ fn a_refused_call_leaves_the_sheet() {
 
 #[test]
 fn compare_names_the_key_at_fault() {
-    let other = [1, 0, 1, 2, 0, 1, 6];
+    let other = [1, 0, 2, 2, 0, 2, 6];
     for (first, second, which, wanted) in [
         (&SAMPLE[..52], &[9][..], Which::First, (2, 52)),
         (&SAMPLE, &[9], Which::Second, (3, 0)),
-        (&SAMPLE, &other, Which::Neither, (35, 0)),
+        (&SAMPLE, &other, Which::Neither, (22, 1)),
     ] {
         let answer = compare(first, second, &[3], &[4], &mut [0; 6]);
         assert_eq!(compared(answer), Err((which, wanted)));
     }
+}
+
+#[test]
+fn compare_takes_keys_of_two_shapes() {
+    let mut grown = SAMPLE;
+    // One row bit and one column bit more in the head and in the last array.
+    [grown[1], grown[2], grown[28], grown[29]] = [2; 4];
+    let larger = |first: &[u8], second: &[u8]| {
+        let counts = [first, second].map(|key| check(key).expect("the key is accepted"));
+        counts[0].larger_shape(counts[1])
+    };
+    for (first, second) in [(&SAMPLE, &grown), (&grown, &SAMPLE)] {
+        assert_eq!(larger(first, second), (2, 2));
+        // The calls of the grown key count one row bit and one column bit more, and the sample's unused coordinates two.
+        let factors = FACTORS + (FACTORS + 4) + 2;
+        let same = compare(first, second, &[3, 5], &[4, 6], &mut [0; 6]);
+        assert_eq!(compared(same), Ok((true, factors)));
+        let point = (&[3, 1, 5, 0], &[4, 2, 0, 6]);
+        let same = compare_quadratic(first, second, point.0, point.1, &mut [0; 12]);
+        assert_eq!(compared(same), Ok((true, factors)));
+        let short = compare(first, second, &[3], &[4], &mut [0; 6]);
+        assert_eq!(compared(short), neither((21, 1)));
+        let short = compare_quadratic(first, second, &[3, 1, 5, 0], &[4, 2], &mut [0; 12]);
+        assert_eq!(compared(short), neither((22, 2)));
+    }
+    let mut sheet = LENT;
+    let wide = [1, 0, 2, 2, 0, 2, 6];
+    let different = compare(&SAMPLE, &wide, &[3], &[4, 6], &mut sheet);
+    assert_eq!(compared(different), Ok((false, FACTORS + 1 + 1)));
+    assert_eq!(larger(&SAMPLE, &wide), (1, 2));
+    assert_eq!(sheet, [0, 0, 0, 2147483567, 2147483535, 0, 107, 108]);
 }
 
 #[test]

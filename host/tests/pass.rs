@@ -8,15 +8,16 @@ mod lent;
 
 use cases::{compare_outcome, outcome, outcomes, run, Case};
 use generator::damage::mostly_damaged;
+use generator::grown::{larger, pair};
 use generator::inputs::{point, sheet, short_sheet, Drawn};
 use generator::keys::{any, small, wide};
 use generator::moves::to_move;
 use generator::random::Random;
-use generator::variants::{arrays, second, shape};
+use generator::variants::arrays;
 use independent::calls::{self, matrix_values, pass_values, place_values};
 use independent::dense::unroll_places;
 use independent::edition::moved;
-use independent::field::{elements, Field, Fp, Quadratic};
+use independent::field::{elements, with_zeros, Field, Fp, Quadratic};
 use independent::key::{factors, read, Key};
 use independent::pass;
 use independent::pass::factors::Factors;
@@ -124,9 +125,25 @@ fn points_of_p_in_p_squared() {
     });
 }
 
-/// The numbers of coordinates whose u are these, and whose v are 0.
-fn with_zeros(coordinates: &[u32]) -> Vec<u32> {
-    coordinates.iter().flat_map(|&u| [u, 0]).collect()
+/// Where every v is 0, compare over p² answers what it answers over p, also for keys of two shapes.
+#[test]
+fn comparisons_at_points_of_p() {
+    let wanted = outcomes(&["same", "different"], &[]);
+    run("compare, v zero", 3_000, &wanted, |random| {
+        let [first, second] = pair(random);
+        let (rows, columns) = larger(&first, &second);
+        let (rows, columns) = point(random, rows, columns);
+        let arrays = arrays(&first).max(arrays(&second));
+        let mut sheet = sheet::<Quadratic>(random, arrays);
+        let [first, second] = [bytes(&first), bytes(&second)];
+        let answer = calls::compare::<Fp>(&first, &second, &rows, &columns, &mut sheet);
+        let input = format!("{rows:?} {columns:?}");
+        let mut case = Case::new(&[&first, &second], input, compare_outcome(&answer));
+        let [rows, columns] = [rows, columns].map(|side| with_zeros(&side));
+        let got = calls::compare::<Quadratic>(&first, &second, &rows, &columns, &mut sheet);
+        case.hold("over p²", got, answer);
+        case
+    });
 }
 
 /// i² = -1, and an element times its conjugate is a number, its norm, which is 0 for 0 alone: every other has an inverse.
@@ -202,17 +219,12 @@ fn fast_evaluate_and_compare_agree() {
 fn fast_calls_agree<F: Passed>() {
     let wanted = outcomes(
         &["same", "different"],
-        &[
-            ("neither", 21..=23),
-            ("neither", 31..=31),
-            ("neither", 35..=35),
-        ],
+        &[("neither", 21..=23), ("neither", 31..=31)],
     );
     let name = format!("fast compare over {}", F::NAME);
     run(&name, 4_000, &wanted, |random| {
-        let first = any(random);
-        let second = second(random, &first);
-        let (rows, columns) = shape(&first);
+        let [first, second] = pair(random);
+        let (rows, columns) = larger(&first, &second);
         let (rows, columns) = if random.chance(4) {
             F::faulty_point(random, rows, columns)
         } else {
@@ -242,9 +254,13 @@ fn fast_calls_agree<F: Passed>() {
         case.hold("compare by tables", got, same);
         case.hold("its sheet", &fast, &plain);
         if let Ok(answer) = answer {
-            let taken = [&first, &second].map(|key| pass::factors(key).expect("it is accepted"));
-            case.hold("factors of both", taken[0] + taken[1], answer.factors);
+            let taken = pass::factors_of_both(&first, &second);
+            case.hold("factors of both", taken, Ok(answer.factors));
         }
+        // A point that fits both keys has the first's own coordinates at its beginning.
+        let upto =
+            |side: &[u32], bits: u8| side[..side.len().min(F::NUMBERS * bits as usize)].to_vec();
+        let (rows, columns) = (upto(&rows, first[1]), upto(&columns, first[2]));
         let answer = calls::evaluate::<F>(&first, &rows, &columns, &mut plain);
         let values = answer.map(|answer| answer.values);
         let got = pass::evaluate::<Factors<F>>(&first, &rows, &columns, &mut fast);

@@ -191,6 +191,7 @@ static void build(void)
     of_cells("9 cells", 30, 30, 9);
     of_cells("100 cells", 30, 30, 100);
     of_cells("100 cells without row bits", 0, 30, 100);
+    of_cells("100 cells without column bits", 30, 0, 100);
     tower("a tower of 30 levels", 0);
     tower("a scaled tower of 30 levels", MORGANA_P - 1);
     full();
@@ -209,14 +210,22 @@ static size_t rows_length, columns_length, sheet_length;
 static uint8_t buffer[MORGANA_KEY_LIMIT];
 static size_t buffer_length;
 
-static void lend(const Key *key, size_t numbers, int fault)
+static int larger(int one, int other)
+{
+    return one > other ? one : other;
+}
+
+/* A point of so many numbers a coordinate, as two keys take it or one that is given twice. */
+static void lend(const Key *one, const Key *other, size_t numbers, int fault)
 {
     for (uint32_t i = 0; i < 2 * MORGANA_MOST_BITS; i++) {
         rows[i] = 1234567890 + i;
         columns[i] = MORGANA_P - 1 - i;
     }
-    rows_length = numbers * key->row_bits + (fault == ROWS_WRONG);
-    columns_length = numbers * key->column_bits + (fault == COLUMNS_WRONG);
+    size_t row_bits = (size_t)larger(one->row_bits, other->row_bits);
+    size_t column_bits = (size_t)larger(one->column_bits, other->column_bits);
+    rows_length = numbers * row_bits + (fault == ROWS_WRONG);
+    columns_length = numbers * column_bits + (fault == COLUMNS_WRONG);
     if (fault == COORDINATE_WRONG)
         columns[columns_length - 1] = MORGANA_P;
     sheet_length = fault == SHEET_WRONG ? 1 : MORGANA_SHEET_QUADRATIC;
@@ -365,12 +374,21 @@ static Told run_apart(const Call *call)
     return *told;
 }
 
-/* The count of factors in the reply of a call that gives a number. */
+/* The bits that only one of two keys has. */
+static uint64_t unequal(int one, int other)
+{
+    return (uint64_t)abs(one - other);
+}
+
+/* The count of factors in the reply of a call that gives a number: those of the keys, and of the
+ * coordinates that a key does not use. */
 static uint64_t factors_of(const Call *call, uint32_t number)
 {
     uint64_t one = call->counted > 0 ? first->factors : 0;
     uint64_t other = call->counted > 1 ? second->factors : 0;
-    return number != 0 ? 0 : one + other;
+    uint64_t unused = unequal(first->row_bits, second->row_bits) +
+                      unequal(first->column_bits, second->column_bits);
+    return number != 0 ? 0 : one + other + unused;
 }
 
 /* Wants a call to give the number and the count of factors and to keep to the stack, and counts
@@ -413,7 +431,7 @@ static void hold_key(const Key *key)
     first = second = key;
     hold(&all[CHECK], key->number);
     row = 0;
-    lend(key, 1, RIGHT);
+    lend(key, key, 1, RIGHT);
     hold(&all[CELL], key->number);
     row = 1u << key->row_bits;
     hold(&all[CELL], key->number != 0 ? key->number : MORGANA_ADDRESS_OUTSIDE);
@@ -424,7 +442,7 @@ static void hold_key(const Key *key)
             continue;
         uint32_t wanted = key->number != 0 ? key->number : fault_numbers[fault];
         for (int call = EVALUATE; call < CALLS; call++) {
-            lend(key, all[call].numbers, fault);
+            lend(key, key, all[call].numbers, fault);
             hold(&all[call], wanted);
         }
     }
@@ -436,10 +454,8 @@ static void hold_pair(const Key *one, const Key *other)
     first = one;
     second = other;
     uint32_t wanted = one->number != 0 ? one->number : other->number;
-    if (wanted == 0 && (one->row_bits != other->row_bits || one->column_bits != other->column_bits))
-        wanted = MORGANA_SHAPES_DIFFER;
     for (int call = COMPARE; call < CALLS; call++) {
-        lend(one, all[call].numbers, RIGHT);
+        lend(one, other, all[call].numbers, RIGHT);
         hold(&all[call], wanted);
     }
 }

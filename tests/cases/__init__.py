@@ -16,6 +16,7 @@ counts               compare at every point of a list of values, by closed forms
 towers               keys too large to unroll, with their closed forms
 editions             the cases of edition 2, and of the move
 factors              the count of factors that evaluate, cell and compare answer
+grown                the cases of compare for keys of unequal shapes, over either field
 quadratic            the cases over p², of crates/cases_quadratic
 products             the cases of crates/products
 """

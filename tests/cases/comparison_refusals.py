@@ -5,8 +5,7 @@ import itertools
 from tests.draw.numbers import drawn_point, numbered
 from tests.model.fields import P, TOP
 
-from .comparisons import both_ways
-from .keys import FAULTY, ONE, THREE, TWO, pair, single
+from .keys import ACROSS, FAULTY, NONE, ONE, THREE, TWO, pair, single
 
 
 def key_fault_cases(cases):
@@ -27,17 +26,6 @@ def key_fault_cases(cases):
     cases.compare("", ONE, (3,), (), "first refused 2 at 0")
     cases.compare(ONE, "", (3,), (), "second refused 2 at 0")
     cases.compare("", "", (3,), (), "first refused 2 at 0")
-
-
-def shape_cases(cases, draw):
-    """Number 35: shapes that differ in rows, in columns and in both, at points of either shape."""
-    heads = (1, 2), (2, 1), (1, 1), (2, 2), (0, 3), (3, 0)
-    for one, other in itertools.combinations(heads, 2):
-        first, second = (single(bits, (0, 0), (1, 2, 3)) for bits in (one, other))
-        bits = (one, other)[draw.below(2)]
-        cases.compare(first, second, *drawn_point(draw, bits), "neither refused 35 at 0")
-    first, second = (single(bits, (0, 0), (0, 0, 0)) for bits in ((30, 0), (0, 30)))
-    both_ways(cases, first, second, drawn_point(draw, (30, 0)), "neither refused 35 at 0", numbered(2))
 
 
 def count_faults(cases, draw):
@@ -80,32 +68,53 @@ def sheet_cases(cases):
         cases.compare(first, second, (5,), (), wanted, numbered(places))
 
 
+def unequal_sheets(cases):
+    """What sheets hold where shapes are unequal: each key's numbers at its own coordinates, which nothing multiplies."""
+    two = f"{P - 28} {P - 32} {P - 36}"
+    for first, second, places, wanted in (
+        (NONE, TWO, 7, f"same sheet 7 8 9 {two} 107"),
+        (TWO, NONE, 7, f"same sheet 7 8 9 {two} 107"),
+        (NONE, ONE, 4, "different sheet 5 10 15 104"),
+        (ONE, NONE, 4, "different sheet 7 8 9 104"),
+        (THREE, NONE, 9, "different sheet 7 8 9 0 0 0 5 10 15"),
+        (NONE, THREE, 8, "neither refused 31 at 9 sheet 101 102 103 104 105 106 107 108"),
+        (THREE, NONE, 8, "neither refused 31 at 9 sheet 101 102 103 104 105 106 107 108"),
+    ):
+        cases.compare(first, second, (5,), (), wanted, numbered(places))
+    # A key of one column bit, at the column 5, with one of one row bit, at the row 7.
+    two = f"{P - 42} {P - 48} {P - 54}"
+    cases.compare(ACROSS, TWO, (7,), (5,), f"different sheet 7 8 9 {two} 107", numbered(7))
+    cases.compare(TWO, ACROSS, (7,), (5,), f"different sheet 5 10 15 {two} 107", numbered(7))
+    cases.compare(ACROSS, TWO, (7,), (5,), "neither refused 31 at 6", numbered(5))
+
+
 def order_cases(cases):
-    """Compare's order, for each fault alone, each two of them, and each with all behind it."""
+    """Compare's order, for each fault alone, each two of them, and each with all behind it, on shapes that are equal and that
+    are not.
+    """
     wanted = (
         "first refused 13 at 7",
         "second refused 12 at 9",
-        "neither refused 35 at 0",
         "neither refused 21 at 3",
         "neither refused 22 at 0",
         "neither refused 23 at 1",
         "neither refused 23 at 3",
         "neither refused 31 at 9",
     )
-    pairs = itertools.combinations_with_replacement(range(8), 2)
-    for faults in dict.fromkeys((*map(frozenset, pairs), *(frozenset(range(i, 8)) for i in range(8)))):
-        bits = "2 1" if 2 in faults else "2 2"
-        first = f"head 2 2, sparse 2 2, end{', end' if 0 in faults else ''}"
-        second = f"head {bits}, 2 times sparse 0 0, {'' if 1 in faults else f'sparse {bits}, '}end"
-        rows = [3, P if 5 in faults else 4, *([5] if 3 in faults else [])]
-        columns = [6, P if 6 in faults else 7][: 0 if 4 in faults else 2]
-        cases.compare(first, second, rows, columns, wanted[min(faults)], numbered(8 if 7 in faults else 9))
+    pairs = itertools.combinations_with_replacement(range(7), 2)
+    chosen = dict.fromkeys((*map(frozenset, pairs), *(frozenset(range(i, 7)) for i in range(7))))
+    for faults, (one, other) in itertools.product(chosen, (("2 2", "2 2"), ("2 2", "2 1"), ("2 1", "1 2"))):
+        first = f"head {one}, sparse {one}, end{', end' if 0 in faults else ''}"
+        second = f"head {other}, 2 times sparse 0 0, {'' if 1 in faults else f'sparse {other}, '}end"
+        rows = [3, P if 4 in faults else 4, *([5] if 2 in faults else [])]
+        columns = [6, P if 5 in faults else 7][: 0 if 3 in faults else 2]
+        cases.compare(first, second, rows, columns, wanted[min(faults)], numbered(8 if 6 in faults else 9))
 
 
 def comparison_refusals(cases, draw):
     """Every refusal of compare with the key that it names, the order of faults, and sheets that fit one key or both."""
     key_fault_cases(cases)
-    shape_cases(cases, draw)
     count_faults(cases, draw)
     sheet_cases(cases)
+    unequal_sheets(cases)
     order_cases(cases)

@@ -7,11 +7,12 @@ from tests.draw.changes import damaged, in_other_edition, nearly, rewritten
 from tests.draw.keys import drawn_key, encoded
 from tests.draw.numbers import drawn_edges, drawn_point, numbered, spoiled
 from tests.model.dense import bits_of
-from tests.model.fields import P, TOP
+from tests.model.fields import P, PRIME, TOP
+from tests.model.pairs import most_bits
 from tests.model.words import byte_words, key_words, times, words
 
 from .evaluations import longest_keys
-from .keys import CIRCUIT, EMPTY, NESTED, ONE, REWRITTEN, SAMPLE, THREE, keyed, of_cells, pair, part, single
+from .keys import CIRCUIT, EMPTY, NESTED, ONE, REWRITTEN, SAMPLE, THREE, keyed, of_cells, pair, part, single, unused
 from .towers import drawn_levels, shapes, tower, tower_factors, tower_values
 
 
@@ -96,13 +97,14 @@ def no_point_cases(cases):
         cases.compare(one, other, (), (), "same" if texts[one] == texts[other] else "different")
 
 
-def tower_pair(cases, draw, one, other, wanted=None):
-    """Two towers of one shape, each its cell's values and its levels, at a point, against their closed forms."""
-    point = drawn_point(draw, shapes(one[1])[-1])
-    known = [tower_values(*each, point) for each in (one, other)]
-    sheet = [TOP] * 3 * max(map(len, known)) + [1, 2]
-    factors = sum(tower_factors(levels) for _, levels in (one, other))
-    cases.compare(tower(*one), tower(*other), *point, wanted, sheet, known, len(one[1]) < 10, factors)
+def tower_pair(cases, draw, one, other, wanted=None, field=PRIME):
+    """Two towers, each its cell's values and its levels, at a point over a field, against their closed forms."""
+    heads = [shapes(levels)[-1] for _, levels in (one, other)]
+    point = drawn_point(draw, field.counts(most_bits(*heads)))
+    known = [tower_values(*each, point, field) for each in (one, other)]
+    sheet = [TOP] * 3 * field.size * max(map(len, known)) + [1, 2]
+    factors = sum(tower_factors(levels) for _, levels in (one, other)) + unused(*heads)
+    cases.compare(tower(*one), tower(*other), *point, wanted, sheet, known, max(map(len, known)) < 11, factors)
 
 
 def tower_cases(cases, draw):

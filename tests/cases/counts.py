@@ -7,7 +7,7 @@ import itertools
 from tests.model.fields import P
 
 from .comparisons import root, weighed
-from .keys import of_cells, pair, part
+from .keys import last_place, of_cells, pair, part, places
 
 # The shapes of two coordinates.
 SHAPES = (2, 0), (1, 1), (0, 2)
@@ -33,17 +33,16 @@ def bound(bits, values):
     return q**m - (q - 1) ** m
 
 
-def counted(cases, keys, bits, values, same, number):
-    """Two keys of cells at every point of the values; `same` says where they are the same, and so often they are."""
-    texts = (of_cells(bits, cells) for cells in keys)
+def counted_pair(cases, texts, bits, values, same, number):
+    """Two keys in words at every point of the values; `same` says where they are the same, and so often they are."""
     found = cases.count(*texts, bits, values.all, lambda point: "S" if same(point) else "D", values.name)
     if found != number:
         raise ValueError(f"same at {found} points, not at {number}")
 
 
-def places(bits):
-    """The places of a matrix, the last one last."""
-    return itertools.product(*(range(2**n) for n in bits))
+def counted(cases, keys, bits, values, same, number):
+    """The same of two keys of cells that have one shape."""
+    counted_pair(cases, [of_cells(bits, cells) for cells in keys], bits, values, same, number)
 
 
 def unweighed(bits, place):
@@ -58,7 +57,7 @@ def holding(*wanted):
 
 def corner_count(cases, bits, values, cell, common):
     """A cell at the last place against none: the same exactly where a coordinate is 0, which is as often as the bound allows."""
-    place = tuple(2**n - 1 for n in bits)
+    place = last_place(bits)
     keys = [*common, (place, cell)], common
     counted(cases, keys, bits, values, lambda point: 0 in point, bound(bits, values))
 
@@ -116,7 +115,7 @@ def equal_counts(cases, draw):
 
 
 def refusal_counts(cases, draw):
-    """Refused exactly where a coordinate is p or more, and at every point where a key or the shapes are at fault."""
+    """Refused exactly where a coordinate is p or more, and at every point where a key is at fault or has more coordinates."""
     for bits in ((1, 0), (0, 1), *SHAPES):
         values = [P, 0, draw.below(P), P + 1, P - 1]
         text, other = of_cells(bits, []), of_cells((2, 2), [])

@@ -7,11 +7,12 @@ import itertools
 
 from tests.draw.numbers import drawn_point
 from tests.model.fields import P
+from tests.model.pairs import most_bits
 from tests.model.words import byte_words, joined, times, words
 
 from .comparisons import both_ways
 from .editions.shared import InEditionTwo
-from .keys import CIRCUIT, EMPTY, NESTED, REWRITTEN, SAMPLE, keyed, pair
+from .keys import CIRCUIT, EMPTY, NESTED, REWRITTEN, SAMPLE, keyed, pair, unused
 from .quadratic.shared import Quadratics, point_of
 
 # The factors of NESTED, array by array.
@@ -22,6 +23,9 @@ CIRCUIT_FACTORS = 2 * 3
 ARRAYS_FACTORS = (0 + 6, 3 + 6, 6 + 0, 2 + 3 + 1, 1 + 1 + 2 + 2, 5 * 3 + 3 + 3, 6 + 3 + 3, 1 + 1 + 6 + 2 + 2)
 REWRITTEN_FACTORS = (2 * 3, 3 * 3, 3 * 3, 4 * 3, 4 * 3, 4 * 3, *ARRAYS_FACTORS)
 EMPTY_FACTORS = (0, 0, 3, 2 * 3, 2 + 2 * 1, 2 * 3 + 3)
+
+# The shapes of which each two are compared.
+UNEQUAL = (0, 0), (0, 1), (1, 0), (1, 1), (2, 3), (3, 2), (0, 30), (30, 0), (30, 30)
 
 # As many calls as a key has room for, of an array without bits: no key has more factors.
 MOST = "head 30 30, sparse 0 0, recursive 30 30, 5956 times call 0 5 7, end"
@@ -150,18 +154,31 @@ def comparison_cases(cases, points):
     cases.compare(MOST, MOST, *points((30, 30)), "same", factors=2 * MOST_FACTORS)
 
 
+def shape_comparisons(cases, points):
+    """Two keys of unequal shapes: the factors of both, and one for each coordinate that one of them does not use (02, E7)."""
+    known = {bits: (text, factors) for text, bits, factors in (*cell_keys(), *limit_keys(), *record_keys())}
+    for i, (one, other) in enumerate(itertools.combinations(UNEQUAL, 2)):
+        (first, factors), (second, others) = known[one], known[other]
+        counts = factors + others + unused(one, other)
+        cases.compare(*pair(i % 2, first, second), *points(most_bits(one, other)), factors=counts)
+    text, factors = known[0, 30]
+    cases.compare(MOST, text, *points((30, 30)), factors=MOST_FACTORS + factors + 30)
+
+
 def factor_cases(cases, draw):
-    """02, E4, over p, in both editions."""
+    """02, E4, over p, in both editions, and for two keys of unequal shapes E7."""
     points = functools.partial(drawn_point, draw)
     for each in (cases, InEditionTwo(cases)):
         evaluation_cases(each, points)
         cell_cases(each)
         comparison_cases(each, points)
+        shape_comparisons(each, points)
 
 
 def quadratic_factor_cases(cases, draw):
-    """02, E4, over p², where a coordinate counts one too."""
+    """The same over p², where a coordinate counts one too."""
     points, quadratics = functools.partial(point_of, draw), Quadratics(cases)
     for each in (quadratics, InEditionTwo(quadratics)):
         evaluation_cases(each, points)
         comparison_cases(each, points)
+        shape_comparisons(each, points)

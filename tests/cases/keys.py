@@ -1,9 +1,14 @@
 """The keys in words that several lists of cases are about, and short words for others."""
 
+import itertools
+import operator
 import re
 
+from tests.draw.changes import grown
+from tests.draw.keys import encoded
 from tests.model.fields import P
-from tests.model.words import joined, words
+from tests.model.records import records_in
+from tests.model.words import joined, key, key_words, words
 
 # 01, 'The keysheet program and the host': the key of the sample input.
 SAMPLE = bytes.fromhex(
@@ -77,6 +82,10 @@ ONE = "head 1 0, sparse 1 0, cell 1 0 1 2 3, end"
 TWO = "head 1 0, sparse 0 0, cell 0 0 7 8 9, recursive 1 0, call 0 0 0, end"
 THREE = "head 1 0, sparse 0 0, cell 0 0 1 2 3, recursive 1 0, sparse 1 0, cell 1 0 1 2 3, end"
 
+# A key of no bits, which has grown into the one of two arrays above, and a key of one column bit.
+NONE = "head 0 0, sparse 0 0, cell 0 0 7 8 9, end"
+ACROSS = "head 0 1, sparse 0 1, cell 0 1 1 2 3, end"
+
 # 01, 'Who can cause a refusal': for each number of check a key, with one row bit and no column bits, and the place.
 FAULTY = {
     1: ("65537 times bytes 00", 65536),
@@ -112,6 +121,33 @@ def scaled(text, factor=1):
     """A key of edition 1 in words as one of edition 2 whose calls have this factor; what is in bytes stays."""
     text = re.sub(r"\bhead (\d+ \d+)", r"scaled_head \1", text)
     return re.sub(r"\bcall (\d+ \d+ \d+)", rf"scaled_call \1 {factor}", text)
+
+
+def enlarged(text, more, position=(0, 0), factor=1):
+    """A key in words of so many row and column bits more than this one, whose last array calls this one's last at a position,
+    and in edition 2 with a factor.
+    """
+    return key_words(encoded(grown(records_in(key(text))[0], more, position, factor)))
+
+
+def unused(one, other):
+    """How many coordinates of a point for keys of these bits are not used by one of them: 02, E7."""
+    return sum(abs(n - k) for n, k in zip(one, other, strict=True))
+
+
+def places(bits):
+    """The places of a matrix, the last one last."""
+    return itertools.product(*(range(2**n) for n in bits))
+
+
+def last_place(bits):
+    """The last place of a matrix."""
+    return tuple(2**n - 1 for n in bits)
+
+
+def grown_bits(bits, more):
+    """The bits of a key that has so many row and column bits more."""
+    return tuple(map(operator.add, bits, more))
 
 
 def keyed(arrays):

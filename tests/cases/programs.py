@@ -15,6 +15,7 @@ from .editions.quadratic import edition_cases as quadratic_edition_cases
 from .editions.sweep import edition_cases
 from .evaluations import evaluation_cases
 from .factors import factor_cases, quadratic_factor_cases
+from .grown.sweep import grown_cases, quadratic_grown_cases
 from .quadratic.sweep import quadratic_cases
 from .records import put_cases, take_cases
 from .refusals import refusal_cases
@@ -36,6 +37,7 @@ def public_cases():
     count_cases(cases, draw)
     edition_cases(cases, draw)
     factor_cases(cases, draw)
+    grown_cases(cases, draw)
     return cases
 
 
@@ -45,6 +47,7 @@ def cases_over_p_squared():
     quadratic_cases(cases, draw)
     quadratic_edition_cases(cases, draw)
     quadratic_factor_cases(cases, draw)
+    quadratic_grown_cases(cases, draw)
     return cases
 
 

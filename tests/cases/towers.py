@@ -25,8 +25,8 @@ def shapes(levels):
 
 
 def calls(called, down, right, count):
-    """So many calls of a level in words."""
-    return times(count, words("call", (called, down, right)))
+    """So many calls of a level in words, or nothing where there are none."""
+    return times(count, words("call", (called, down, right))) if count else ""
 
 
 def scaled_calls(called, down, right, count):

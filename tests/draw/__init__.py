@@ -3,5 +3,5 @@ damaged.
 
 numbers  numbers, factors, and points, places and sheets of numbers
 keys     keys of few arrays, and keys of many calls
-changes  keys made of another: damaged ones, one that is nearly the same, and ones of the same circuit
+changes  keys made of another: damaged ones, one that is nearly the same, ones of the same circuit, and larger ones
 """

@@ -1,6 +1,7 @@
-"""What is made of a drawn key: damaged ones, one that is nearly the same, and ones of the same circuit."""
+"""What is made of a drawn key: damaged ones, one that is nearly the same, ones of the same circuit, and larger ones."""
 
 import itertools
+import operator
 
 from tests.model.fields import P, TOP
 from tests.model.keys import CALLS, larger
@@ -158,3 +159,14 @@ def in_other_edition(records):
         else:
             others.append((name, fields))
     return others
+
+
+def grown(records, more, position=(0, 0), factor=1):
+    """The records of a key of the same edition and so many row and column bits more, whose last array has one call: of this
+    key's last array, at a position and, in edition 2, with a factor.
+    """
+    (name, bits), *others, end = records
+    bits = tuple(map(operator.add, bits, more))
+    called = sum(each in ("sparse", "recursive") for each, _ in others) - 1
+    fields = (called, *position) if name == "head" else (called, *position, factor)
+    return [(name, bits), *others, ("recursive", bits), (CALLS[name], fields), end]

@@ -8,6 +8,7 @@ keys     when a key is accepted: the rules of its records
 editions a key moved into the other edition
 dense    weights, the dense form of each array, and its value at a point
 factors  how many factors the weights of a key's records have
+pairs    two keys of any shapes: the coordinates that each does not use, and what they multiply its values by
 words    keys, numbers and answers in words
 calls    what each call answers
 """

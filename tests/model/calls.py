@@ -7,6 +7,7 @@ from .editions import moved
 from .factors import factors
 from .fields import P, PRIME
 from .keys import read
+from .pairs import most_bits, multiplied, pair_factors, unused
 from .records import Refusal, encode, record_at
 from .words import accepted, counted, outcome, refused, words
 
@@ -63,10 +64,10 @@ def check(data):
     return accepted(len(arrays), entry_count("sparse", arrays), entry_count("recursive", arrays), *head)
 
 
-def hold_point(head, rows, columns, field=PRIME):
-    """Refuses what is no point of this head."""
-    for number, bits, numbers in zip((21, 22), head, (rows, columns)):
-        if len(numbers) != field.size * bits:
+def hold_point(bits, rows, columns, field=PRIME):
+    """Refuses what is no point of so many row and column coordinates."""
+    for number, count, numbers in zip((21, 22), field.counts(bits), (rows, columns)):
+        if len(numbers) != count:
             raise Refusal(number, len(numbers))
     for index, r in enumerate([*rows, *columns]):
         if r >= P:
@@ -78,12 +79,6 @@ def hold_place(head, row, column):
     for place, (number, bits) in enumerate(zip((row, column), head)):
         if number >= 2**bits:
             raise Refusal(24, place)
-
-
-def hold_shapes(head, other):
-    """Refuses keys of two shapes."""
-    if head != other:
-        raise Refusal(35, 0)
 
 
 def hold_sheet(arrays, sheet, field=PRIME):
@@ -152,27 +147,26 @@ def named(which, judged, *of):
 
 
 def read_pair(first, second, rows, columns, sheet, field=PRIME):
-    """The arrays of two keys that are compared at a point on a sheet."""
-    head, arrays = named("first", read, first)
-    other, others = named("second", read, second)
-    named("neither", hold_shapes, head, other)
-    named("neither", hold_point, head, rows, columns, field)
-    named("neither", hold_sheet, max(arrays, others, key=len), sheet, field)
-    return arrays, others
+    """The heads' bits and the arrays of two keys that are compared at a point on a sheet."""
+    heads, keys = zip(named("first", read, first), named("second", read, second))
+    named("neither", hold_point, most_bits(*heads), rows, columns, field)
+    named("neither", hold_sheet, max(keys, key=len), sheet, field)
+    return heads, keys
 
 
-def verdict(known, others):
-    """What compare says of two keys, by each array's A, B and C."""
-    return "same" if known[-1] == others[-1] else "different"
+def verdict(heads, known, rows, columns, field=PRIME):
+    """What compare says of two keys, by the bits of their heads and each array's A, B and C."""
+    one, other = (multiplied(each[-1], left, rows, columns, field) for each, left in zip(known, unused(heads)))
+    return "same" if one == other else "different"
 
 
 def compare(first, second, rows, columns, sheet, known=None, field=PRIME):
     """What comparing two keys at a point answers, and the sheet afterwards; `known` as for evaluate, of each key."""
     try:
-        keys = read_pair(first, second, rows, columns, sheet, field)
+        heads, keys = read_pair(first, second, rows, columns, sheet, field)
     except Refusal as refusal:
         *cause, which = refusal.args
         return outcome(f"{which} {refused(*cause)}", sheet)
     one, other = known or [triples(arrays, dense(arrays), rows, columns, field) for arrays in keys]
-    answer = counted(verdict(one, other), sum(map(factors, keys)))
+    answer = counted(verdict(heads, (one, other), rows, columns, field), pair_factors(heads, keys))
     return outcome(answer, written(other, written(one, sheet)))

@@ -49,6 +49,10 @@ class Field(collections.namedtuple("Field", ("suffix", "size", "element", "numbe
         """The elements that a list of numbers is."""
         return [self.element(*numbers[i : i + self.size]) for i in range(0, len(numbers), self.size)]
 
+    def counts(self, bits):
+        """How many numbers a point has on each side, for a key of these bits."""
+        return [self.size * n for n in bits]
+
 
 # 01, 'The field', and 02, E2.
 PRIME = Field("", 1, lambda number: number, lambda x: (x,))

@@ -40,3 +40,14 @@ def record_at(data, at):
         fields.append(int.from_bytes(data[place : place + width], "little"))
         place += width
     return name, tuple(fields), place
+
+
+def records_in(data):
+    """The records that bytes begin with, each its name and its fields, and the bytes behind the last that can be taken."""
+    records, at = [], 0
+    try:
+        while True:
+            name, fields, at = record_at(data, at)
+            records.append((name, fields))
+    except Refusal:
+        return records, data[at:]

@@ -2,7 +2,7 @@
 
 import itertools
 
-from .records import KINDS, Refusal, encode, record_at
+from .records import KINDS, encode, records_in
 
 
 def refused(number, place):
@@ -75,10 +75,5 @@ def byte_words(data):
 
 def key_words(data):
     """The words of a key that is given by its bytes, which are left as they are where no record can be taken."""
-    items, at = [], 0
-    try:
-        while True:
-            name, fields, at = record_at(data, at)
-            items.append(words(name, fields))
-    except Refusal:
-        return joined(*items, byte_words(data[at:]))
+    records, rest = records_in(data)
+    return joined(*itertools.starmap(words, records), byte_words(rest))

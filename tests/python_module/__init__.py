@@ -10,6 +10,7 @@ keys       the edges of keys
 points     those of coordinates, rows and columns
 sheets     those of sheets
 moves      those of keys moved into the other edition
+shapes     those of two keys of different shapes
 factors    those of the count of factors
 answers    what answers and refusals are, and how the module describes itself
 chances    random points, and the likelihood that keys that differ pass

@@ -9,11 +9,12 @@ line and ends with status 0, or prints the first fault and ends with status 1.
 import sys
 
 from . import agreement, answers, chances, drawn, example, factors, keys, loading, moves, points
-from . import sheets, threads
+from . import shapes, sheets, threads
 from .holding import Failed, Hold
 
 PARTS = (
-    agreement, answers, keys, points, sheets, moves, factors, chances, threads, loading, example,
+    agreement, answers, keys, points, sheets, moves, shapes, factors, chances, threads, loading,
+    example,
 )
 
 

@@ -13,7 +13,7 @@ from .subject import morgana
 
 P = morgana.P
 COUNTS = {"arrays": 2, "cells": 1, "calls": 2, "rows": 1, "columns": 1}
-EXAMPLES = 18
+EXAMPLES = 22
 
 
 def hold_answers(hold):
@@ -64,10 +64,11 @@ def hold_refusals(hold):
         hold.equal("first", "refused 2 at 30: record missing or cut off; first key", str(first))
         second = hold.refused("second", 2, 30, call, samples.OLD, samples.CUT, [], [], key=2)
         hold.equal("second", "refused 2 at 30: record missing or cut off; second key", str(second))
-        neither = hold.refused("neither", 35, 0, call, samples.OLD, samples.SHORTEST, [], [])
-        hold.equal("neither", "refused 35 at 0: shapes differ", str(neither))
-        hold.equal("its sentence", "shapes differ", neither.sentence)
-        hold.true("its number", neither.number is morgana.Number.SHAPES_DIFFER)
+        neither = hold.refused("neither", 21, 0, call, samples.OLD, samples.SHORTEST, [], [])
+        sentence = "row count not n (N for two keys, twice that over p²)"
+        hold.equal("neither", f"refused 21 at 0: {sentence}", str(neither))
+        hold.equal("its sentence", sentence, neither.sentence)
+        hold.true("its number", neither.number is morgana.Number.ROW_COUNT_WRONG)
 
 
 def hold_copies(hold):
@@ -78,7 +79,8 @@ def hold_copies(hold):
             for other in (copy.copy(refusal), pickle.loads(pickle.dumps(refusal))):
                 fields = other.number, other.place, other.key, other.args, str(other)
                 hold.equal("a copy", (number, 12, key, (number, 12, key), str(refusal)), fields)
-    hold.raises("no number of a refusal", ValueError, morgana.Refused, 14, 0)
+    for number in (0, 14, 35):
+        hold.raises("no number of a refusal", ValueError, morgana.Refused, number, 0)
 
 
 def hold_descriptions(hold):

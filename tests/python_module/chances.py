@@ -78,6 +78,12 @@ def hold_use(hold):
             point = morgana.random_point(1, 1, quadratic)
             hold.true("same", call(samples.OLD, samples.NEW, *point).same)
         hold.true("different", not call(samples.OLD, samples.WRONG, *point).same)
+        for other in (samples.TALL, samples.WIDE, samples.LARGER):
+            shape = morgana.check(samples.OLD).larger_shape(morgana.check(other))
+            for _ in range(50):
+                point = morgana.random_point(*shape, quadratic)
+                hold.true("same in two shapes", call(samples.OLD, other, *point).same)
+            hold.true("different in two shapes", not call(samples.WRONG, other, *point).same)
 
 
 def hold_all(hold):

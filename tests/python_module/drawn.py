@@ -1,16 +1,18 @@
-"""Drawn keys of both editions, points and sheets, whole and faulty, answered by the module and by
-tests/model.
+"""Drawn keys of both editions and of any two shapes, points and sheets, whole and faulty, answered by
+the module and by tests/model.
 """
 
 import collections
+import itertools
 import re
 
-from tests.draw.changes import damaged, in_other_edition, nearly, rewritten
+from tests.draw.changes import damaged, grown, in_other_edition, nearly, rewritten
 from tests.draw.keys import drawn_key, encoded, many_calls
 from tests.draw.numbers import Draw, drawn_edges, drawn_place, drawn_point, numbered, spoiled
 from tests.model import calls as model
 from tests.model.editions import moved
 from tests.model.fields import PRIME, QUADRATIC
+from tests.model.pairs import most_bits
 from tests.model.records import Refusal
 from tests.model.words import accepted, counted, outcome, refused
 
@@ -20,16 +22,21 @@ from .subject import morgana
 
 KEYS = 200
 LEAST = 5
+POINTS = 4
 KEY_FAULTS = range(1, 14)
+COMPARED = "same", "different", 21, 22, 23, 31
 OUTCOMES = {
     "check": ("accepted", *KEY_FAULTS),
     "evaluate": ("accepted", *KEY_FAULTS, 21, 22, 23, 31),
     "cell": ("accepted", *KEY_FAULTS, 24, 31),
-    "compare": ("same", "different", *KEY_FAULTS, 35, 21, 22, 23, 31),
+    "compare": (*COMPARED, *KEY_FAULTS),
     "evaluate_quadratic": ("accepted", *KEY_FAULTS, 21, 22, 23, 31),
-    "compare_quadratic": ("same", "different", *KEY_FAULTS, 35, 21, 22, 23, 31),
+    "compare_quadratic": (*COMPARED, *KEY_FAULTS),
     "moved": ("accepted", *KEY_FAULTS, 55, 56),
 }
+# How the shapes of two accepted keys differ: crossed ones, in that one has more rows and the other
+# more columns.
+SHAPES = "equal", "rows", "columns", "both", "crossed"
 WHICH = {1: "first ", 2: "second ", None: "neither "}
 
 
@@ -84,19 +91,39 @@ def beyond(draw, records):
         yield encoded(many_calls(draw, "head", 4368 + draw.below(3), 1 + draw.below(6)))
 
 
-def points(draw, bits):
-    """Points of so many numbers on each side, any numbers and edges, half of them spoiled."""
-    for point in (drawn_point(draw, bits), drawn_edges(draw, bits)):
-        yield point
-        yield tuple(spoiled(draw, side) for side in point)
+def any_point(draw, counts):
+    """A point of so many numbers on each side, any numbers or edges, half the time spoiled."""
+    point = (drawn_point, drawn_edges)[draw.below(2)](draw, counts)
+    return tuple(spoiled(draw, side) for side in point) if draw.below(2) else point
+
+
+def differing(one, other):
+    """How the shapes of two keys differ, by the bits of their heads."""
+    rows, columns = (n - k for n, k in zip(one, other, strict=True))
+    return "crossed" if rows * columns < 0 else SHAPES[bool(rows) + 2 * bool(columns)]
+
+
+def compared(draw, records):
+    """Keys that a drawn one is compared with: of its shape, of any, and larger ones that call it."""
+    more = draw.below(3), draw.below(3)
+    larger = grown(records, more)
+    return [
+        *(records, nearly(draw, records), rewritten(draw, records), in_other_edition(records)),
+        *(drawn_key(draw), larger, rewritten(draw, larger), in_other_edition(larger)),
+        *(grown(records, (1, 0)), grown(records, (0, 2))),
+        grown(records, more, [draw.below(2**n) for n in more], draw.below(3)),
+    ]
 
 
 class Sweep:
-    """Calls of the module, each compared with what tests/model answers; their outcomes are counted."""
+    """Calls of the module, each compared with what tests/model answers; their outcomes are counted, and
+    those of two accepted keys also by how their shapes differ.
+    """
 
     def __init__(self):
         self.draw = Draw()
         self.counts = collections.Counter()
+        self.shapes = collections.Counter()
 
     def hold(self, name, wanted, keys, rest=(), sheet=None):
         """Compares one call, on the sheet where there is one, and then on the module's own."""
@@ -128,24 +155,39 @@ class Sweep:
         sheet = numbered(self.draw.below(15))
         self.hold("cell", model.cell(data, row, column, sheet), [data], (row, column), sheet)
 
-    def hold_point(self, data, other, point, field):
-        """Evaluates a key, and compares it with another, in either order."""
+    def hold_point(self, data, bits, field):
+        """Evaluates a key of these bits at a point."""
+        point = any_point(self.draw, field.counts(bits))
         sheet = numbered(self.draw.below(15 * field.size))
         wanted = model.evaluate(data, *point, sheet, field=field)
         self.hold(f"evaluate{field.suffix}", wanted, [data], point, sheet)
-        pair = [data, other] if self.draw.below(2) else [other, data]
-        wanted = model.compare(*pair, *point, sheet, field=field)
-        self.hold(f"compare{field.suffix}", wanted, pair, point, sheet)
+
+    def hold_pair(self, pair, field):
+        """Compares two keys, each its bytes and its head's bits, in either order, at a point that has
+        the larger bits or, one time in eight, those of one of them.
+        """
+        keys, heads = zip(*pair[:: 1 - 2 * self.draw.below(2)])
+        bits = (*heads, *[most_bits(*heads)] * 14)[self.draw.below(16)]
+        point = any_point(self.draw, field.counts(bits))
+        sheet = numbered(self.draw.below(18 * field.size))
+        wanted = model.compare(*keys, *point, sheet, field=field)
+        self.hold(f"compare{field.suffix}", wanted, list(keys), point, sheet)
+        kind = kind_of(wanted.split(" sheet")[0])
+        if kind not in KEY_FAULTS:
+            # A damaged key that is accepted may have other bits than the key that was drawn.
+            self.shapes[differing(*((data[1], data[2]) for data in keys)), kind] += 1
 
     def hold_key(self, records, field):
-        """Compares one drawn key, whole and damaged."""
-        draw, whole = self.draw, encoded(records)
-        others = [records, nearly(draw, records), rewritten(draw, records), drawn_key(draw)]
-        others.append(in_other_edition(records))
+        """Compares one drawn key, whole and damaged, with what is made of it, and two of those."""
+        draw = self.draw
+        others = [(encoded(each), each[0][1]) for each in compared(draw, records)]
+        whole, bits = others[0]
         for data in (whole, *damaged(draw, records), *beyond(draw, records)):
-            self.hold_place(data, records[0][1])
-            for point in points(draw, [field.size * n for n in records[0][1]]):
-                self.hold_point(data, encoded(others[draw.below(5)]), point, field)
+            self.hold_place(data, bits)
+            for _ in range(POINTS):
+                self.hold_point(data, bits, field)
+                one, other = (others[draw.below(len(others))] for _ in range(2))
+                self.hold_pair([(data, bits) if draw.below(3) else one, other], field)
 
 
 def hold_all():
@@ -154,9 +196,14 @@ def hold_all():
     for field in (PRIME, QUADRATIC):
         for _ in range(KEYS):
             sweep.hold_key(drawn_key(sweep.draw, 4, sweep.draw.below(2)), field)
-    wanted = {(name, kind) for name, kinds in OUTCOMES.items() for kind in kinds}
-    seldom = {each: sweep.counts[each] for each in wanted if sweep.counts[each] < LEAST}
+    hold_often({(name, kind) for name, kinds in OUTCOMES.items() for kind in kinds}, sweep.counts)
+    hold_often(set(itertools.product(SHAPES, COMPARED)), sweep.shapes)
+    return sweep.counts.total()
+
+
+def hold_often(wanted, counts):
+    """Raises Failed unless each of these outcomes occurred often enough, and no other."""
+    seldom = {each: counts[each] for each in wanted if counts[each] < LEAST}
     if seldom:
         raise Failed(f"each outcome must occur {LEAST} times at least; too seldom: {seldom}")
-    hold_equal("the outcomes that occurred", wanted, set(sweep.counts))
-    return sweep.counts.total()
+    hold_equal("the outcomes that occurred", wanted, set(counts))

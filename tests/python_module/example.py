@@ -19,6 +19,9 @@ FILES = {
     "long": samples.LONGEST + b"\6",
     "shortest": samples.SHORTEST,
     "greatest": samples.GREATEST,
+    "tall": samples.TALL,
+    "wide": samples.WIDE,
+    "displaced": samples.DISPLACED,
 }
 BOUND = "keys that differ would pass with probability at most"
 CASES = (
@@ -31,7 +34,14 @@ CASES = (
     ("old cut", 2, "refused 2 at 30: record missing or cut off; second key\n"),
     ("empty cut", 2, "refused 2 at 0: record missing or cut off; first key\n"),
     ("old long", 2, "refused 1 at 65536: key over 65,536 bytes; second key\n"),
-    ("old shortest", 2, "refused 35 at 0: shapes differ\n"),
+    ("old tall", 0, f"same\n{BOUND} 6.6e-19\n"),
+    ("wide old", 0, f"same\n{BOUND} 8.7e-19\n"),
+    ("wide tall", 0, f"same\n{BOUND} 1.1e-18\n"),
+    ("displaced old", 1, "different\n"),
+    ("old displaced", 1, "different\n"),
+    ("shortest old", 1, "different\n"),
+    ("greatest shortest", 1, "different\n"),
+    ("tall cut", 2, "refused 2 at 30: record missing or cut off; second key\n"),
     ("old absent", 3, ""),
     ("folder old", 3, ""),
     ("old", 3, ""),

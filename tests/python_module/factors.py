@@ -1,5 +1,6 @@
 """The count of factors in answers: what it is at its edges, and that a refused call has none."""
 
+import itertools
 import unittest.mock
 
 from tests.model.words import key
@@ -34,7 +35,7 @@ REFUSED = (
     (morgana.cell, (samples.OLD, 0, 2), 24, 0),
     (morgana.compare, (samples.CUT, samples.OLD, [3], [4]), 2, 1),
     (morgana.compare, (samples.OLD, samples.CUT, [3], [4]), 2, 2),
-    (morgana.compare, (samples.OLD, samples.SHORTEST, [3], [4]), 35, 0),
+    (morgana.compare, (samples.OLD, samples.SHORTEST, [3], []), 22, 0),
     (morgana.compare_quadratic, (samples.OLD, samples.OLD, [3], [4]), 21, 0),
 )
 
@@ -49,16 +50,25 @@ def points(bits):
 
 
 def hold_counts(hold):
-    """A key has as many factors at every point and place, and two keys have those of both."""
+    """A key has as many factors at every point and place."""
     for data, bits, factors in KEYS:
         hold.equal("cell", factors, morgana.cell(data, 0, 0).factors)
         hold.equal("its type", int, type(morgana.cell(data, 0, 0).factors))
-        for evaluate, compare, point in points(bits):
+        for evaluate, _, point in points(bits):
             hold.equal("evaluate", factors, evaluate(data, *point).factors)
-            for other, shape, others in KEYS:
-                if shape == bits:
-                    got = compare(data, other, *point).factors
-                    hold.equal("compare", factors + others, got)
+
+
+def hold_pairs(hold):
+    """Two keys have the factors of both and one for each bit that only one of them has, within the limit."""
+    for (data, bits, factors), (other, others_bits, others) in itertools.product(KEYS, KEYS):
+        unused = sum(abs(n - k) for n, k in zip(bits, others_bits, strict=True))
+        shape = [*map(max, bits, others_bits)]
+        for _, compare, point in points(shape):
+            got = compare(data, other, *point).factors
+            hold.equal("compare", factors + others + unused, got)
+        counts = morgana.check(data), morgana.check(other)
+        limit = sum(shape) * (sum(each.cells + each.calls for each in counts) + 2)
+        hold.true("the limit", factors + others + unused <= limit)
 
 
 def hold_verdicts(hold):
@@ -96,5 +106,6 @@ def hold_refusals(hold):
 def hold_all(hold):
     """Everything of this file."""
     hold_counts(hold)
+    hold_pairs(hold)
     hold_verdicts(hold)
     hold_refusals(hold)

@@ -17,10 +17,17 @@ DOUBLED = key(f"{_FRONT}, scaled_call 0 0 0 2, end")
 NEW = key("head 1 1, sparse 1 1, cell 0 1 10 14 0, end")
 WRONG = key("head 1 1, sparse 1 1, cell 0 1 10 15 0, end")
 
+# The circuit of OLD in larger shapes: with more rows, with more columns and with more of both, called at position 0; and the
+# last called at row position 1.
+TALL = key("head 2 1, sparse 2 1, cell 0 1 10 14 0, end")
+WIDE = key("head 1 3, sparse 1 1, cell 0 1 10 14 0, recursive 1 3, call 0 0 0, end")
+LARGER = key("scaled_head 2 3, sparse 1 1, cell 0 1 5 7 0, recursive 2 3, scaled_call 0 0 0 2, end")
+DISPLACED = key("scaled_head 2 3, sparse 1 1, cell 0 1 5 7 0, recursive 2 3, scaled_call 0 1 0 2, end")
+
 # The first 40 bytes of OLD: the record at 30 is cut off.
 CUT = OLD[:40]
 
-# A key of another shape, and the shortest: no bits, one array without cells.
+# The shortest key: no bits, one array without cells.
 SHORTEST = key("head 0 0, sparse 0 0, end")
 
 # A cell at the last place of the greatest matrices.

@@ -2,5 +2,6 @@
 
 holding  what both answer, compared
 drawn    drawn keys, points and sheets, answered by both
+pairs    drawn pairs of keys of any shapes, compared by both
 moves    drawn keys and buffers, moved by both
 """

@@ -1,10 +1,14 @@
 """Compares tests/model with tests/unroll on drawn keys of both editions, points, sheets and buffers, over p and over p²: both
-unroll a key, count its factors, and move it into the other edition, each in its own way.
+unroll a key, count its factors, and move it into the other edition, each in its own way. Of two keys of unequal shapes
+tests/unroll fills the matrices with zeros and takes their values at the whole point, and tests/model multiplies those that each
+key has at its own coordinates.
 
 The points have numbers 0, 1, 2, p - 1 and any others; some have every number p - 1. Keys, points and sheets are whole or
-faulty, buffers fit or are too short, and each refusal must have occurred. What is moved is moved back, and the two keys are
-compared. At points with every v zero tests/model must answer over p² what it answers over p, as u with v zero, and no whole
-key may have more factors than E4's limit. The cases over p² (tests/cases/quadratic, editions and factors) are worked out too,
+faulty, buffers fit or are too short, and each refusal must have occurred. What is compared differs in rows, in columns, in both
+and crosswise, and each answer must have occurred for each of these and for each two editions. A key and a larger one that calls
+it at position 0 must be the same at every point. What is moved is moved back, and the two keys are compared. At points with
+every v zero tests/model must answer over p² what it answers over p, as u with v zero, and no whole key and no two may have more
+factors than the limits of E4 and E7. The cases over p² (tests/cases/quadratic, editions, factors and grown) are worked out too,
 and must agree with what is worded there. Prints one line and ends with status 0, or prints the first fault and ends with
 status 1.
 """

@@ -11,8 +11,8 @@ def hold(call, got, wanted, about):
         raise Failed(f"{call} {about}\nmodel: {got}\nunrolled: {wanted}")
 
 
-def hold_outcomes(call, outcomes, counts):
-    """Raises Failed where some of the outcomes of a call did not occur."""
-    missing = [each for each in outcomes if not counts[each]]
+def hold_outcomes(call, outcomes, counts, least=1):
+    """Raises Failed where some of the outcomes of a call did not occur so often."""
+    missing = [each for each in outcomes if counts[each] < least]
     if missing:
-        raise Failed(f"{call}: these outcomes did not occur: {missing}")
+        raise Failed(f"{call}: these outcomes did not occur {least} times: {missing}")

@@ -46,7 +46,7 @@ def hold_copy(draw, data):
     hold("the arrays", read(copy), read(data), data.hex())
     head, arrays = read(data)
     for field in (PRIME, QUADRATIC):
-        point = drawn_edges(draw, [field.size * n for n in head])
+        point = drawn_edges(draw, field.counts(head))
         sheet = numbered(3 * field.size * len(arrays))
         wanted = evaluate(data, *point, sheet, field=field)
         hold("the copy", evaluate(copy, *point, sheet, field=field), wanted, data.hex())

@@ -1,44 +1,56 @@
 """A key evaluated at a point, and two keys compared, with the sheet afterwards."""
 
-from .dense import PARTS, dense, extension, weights
-from .factors import factors
+from .dense import PARTS, dense, extension, filled, weights
+from .factors import factors, factors_of_both
 from .fields import F_P, PRIME
-from .keys import Refused, check, require
+from .keys import Refused, check, larger_shape, require
 
 PLACES_LIMIT = 2**18
 
 
 class TooManyPlaces(Exception):
-    """The key is accepted, and has more than PLACES_LIMIT places."""
+    """The keys are accepted, and one of them, or its last array filled with zeros, has more than PLACES_LIMIT places."""
 
 
-def judge_point(key, rows, columns, over):
-    """Refuses with 21, 22 and 23, which count numbers, what is no point of the key."""
-    require(len(rows) == over.numbers * key.row_bits, 21, len(rows))
-    require(len(columns) == over.numbers * key.column_bits, 22, len(columns))
+def judge_point(row_bits, column_bits, rows, columns, over):
+    """Refuses with 21, 22 and 23, which count numbers, what is no point of so many row and column coordinates."""
+    require(len(rows) == over.numbers * row_bits, 21, len(rows))
+    require(len(columns) == over.numbers * column_bits, 22, len(columns))
     for i, number in enumerate([*rows, *columns]):
         require(number < PRIME, 23, i)
 
 
-def judge_places(arrays):
-    """Raises TooManyPlaces for arrays that have more than PLACES_LIMIT places."""
+def judge_places(what, count):
+    """Raises TooManyPlaces for more than PLACES_LIMIT places."""
+    if count > PLACES_LIMIT:
+        raise TooManyPlaces(f"the {what} has {count} places; at most {PLACES_LIMIT} are unrolled")
+
+
+def unrolled(arrays):
+    """The dense matrices A, B and C of each array. Raises TooManyPlaces."""
     sizes = [2 ** (array.row_bits + array.column_bits) for array in arrays]
     called = sum(sizes[call.id] for array in arrays for call in array.calls)
-    if sum(sizes) + called > PLACES_LIMIT:
-        raise TooManyPlaces(f"the key has {sum(sizes) + called} places; at most {PLACES_LIMIT} are unrolled")
+    judge_places("key", sum(sizes) + called)
+    return list(zip(*(dense(arrays, part) for part in PARTS), strict=True))
+
+
+def values(matrices, rows, columns, over):
+    """The numbers of A, B and C by their matrices, at a point of as many elements as these have bits."""
+    sides = weights(rows, over), weights(columns, over)
+    a, b, c = (extension(matrix, *sides, over) for matrix in matrices)
+    return a + b + c
+
+
+def all_values(arrays, matrices, rows, columns, over):
+    """The numbers of A, B and C of all arrays, array i's at the first k and the first k' elements of the point."""
+    pairs = zip(arrays, matrices, strict=True)
+    return [values(three, rows[: a.row_bits], columns[: a.column_bits], over) for a, three in pairs]
 
 
 def evaluate(key, rows, columns, over=F_P):
-    """The numbers of A, B and C of all arrays, array i's at the first k rows and the first k' columns of the point."""
-    judge_point(key, rows, columns, over)
-    judge_places(key.arrays)
-    rows, columns = over.elements(rows), over.elements(columns)
-    sides = [(weights(rows[: a.row_bits], over), weights(columns[: a.column_bits], over)) for a in key.arrays]
-    answers = []
-    for part in PARTS:
-        pairs = zip(dense(key.arrays, part), sides)
-        answers.append([extension(matrix, *side, over) for matrix, side in pairs])
-    return [a + b + c for a, b, c in zip(*answers)]
+    """The numbers of A, B and C of all arrays at a point."""
+    judge_point(key.row_bits, key.column_bits, rows, columns, over)
+    return all_values(key.arrays, unrolled(key.arrays), over.elements(rows), over.elements(columns), over)
 
 
 def laid(triples, sheet):
@@ -65,12 +77,17 @@ def check_named(key_bytes, which):
 
 
 def compare_on(first, second, rows, columns, sheet, over=F_P):
-    """Whether two keys have the same numbers at a point, the factors of both, and the sheet afterwards. Refuses with 1 to 13
-    for the first key, then for the second, and then with 35, 21, 22, 23, and 31 for the key with more arrays.
+    """Whether the matrices of two keys, filled with zeros to the larger shape, have the same numbers at a point, the factors of
+    both keys, and the sheet afterwards. Refuses with 1 to 13 for the first key, then for the second, and then with 21, 22, 23,
+    and 31 for the key with more arrays.
     """
-    one, other = check_named(first, "first"), check_named(second, "second")
-    require((one.row_bits, one.column_bits) == (other.row_bits, other.column_bits), 35, 0)
-    of_first, of_second = (evaluate(key, rows, columns, over) for key in (one, other))
+    keys = check_named(first, "first"), check_named(second, "second")
+    shape = larger_shape(*keys)
+    judge_point(*shape, rows, columns, over)
+    judge_places("larger shape", 2 ** sum(shape))
+    matrices, point = [unrolled(key.arrays) for key in keys], (over.elements(rows), over.elements(columns))
+    of_first, of_second = (all_values(key.arrays, each, *point, over) for key, each in zip(keys, matrices))
     laid(max(of_first, of_second, key=len), sheet)
-    same = of_first[-1] == of_second[-1]
-    return same, factors(one) + factors(other), laid(of_second, laid(of_first, sheet))
+    one, other = ([filled(matrix, *shape) for matrix in each[-1]] for each in matrices)
+    same = values(one, *point, over) == values(other, *point, over)
+    return same, factors_of_both(*keys), laid(of_second, laid(of_first, sheet))

@@ -48,6 +48,12 @@ def recursive_matrix(array, earlier):
     return matrix
 
 
+def filled(matrix, row_bits, column_bits):
+    """The matrix of so many bits that has this one, of no more, in its first rows and columns, and is zero elsewhere."""
+    rows = [[*numbers, *[0] * (2**column_bits - len(numbers))] for numbers in matrix]
+    return rows + [[0] * 2**column_bits for _ in range(2**row_bits - len(matrix))]
+
+
 def eq(whole, coordinates, over):
     """eq([whole]; coordinates) over a field: bit i of the whole number, lowest first, is paired with coordinate i."""
     one = over.embedded(1)

@@ -153,3 +153,8 @@ def end_key(key, place):
     require(key.arrays, 4, place)
     last = key.arrays[-1]
     require((last.row_bits, last.column_bits) == (key.row_bits, key.column_bits), 12, place)
+
+
+def larger_shape(one, other):
+    """N and N' of two keys: the greater of their row bits and the greater of their column bits."""
+    return max(one.row_bits, other.row_bits), max(one.column_bits, other.column_bits)

@@ -1,5 +1,6 @@
-// Two keys compared at a point (01, 'Comparing two keys').
+// Two keys compared at a point (01, 'Comparing two keys'; 02, E7).
 mod both;
+mod filled;
 
 use key::Checked;
 use refusal::Refusal;
@@ -22,12 +23,13 @@ pub enum Compared {
     Refused(Which, Refusal),
 }
 
-// Whether two keys of one shape have the same A, B and C at a point. The sheet ends as if the first key and then the second had
-// been evaluated on it, and a refused call leaves it.
+// Whether two keys have the same A, B and C at a point. Where their shapes differ, the point has as many coordinates as the larger bits,
+// N and N', and each key is read as placed at position 0 of that shape, with zeros elsewhere. The sheet ends as if the first key and then
+// the second had been evaluated on it, each at its own leading coordinates, and a refused call leaves it.
 //
 // Demand 3 is `answer` and `agreement` together: `agreement` says of what `compared` answers at how many points at most keys that differ
 // are the same, and that keys which do not differ are the same at every point; `answer` says that the call answers what `compared` does.
-// By `limit` the factors that are answered are at most both keys' (n + n')·(cells + calls).
+// By `limit` the factors that are answered are at most (N + N')·(cells + calls), of both keys, and N + N' more for each.
 pub fn compare(
     first: &[u8],
     second: &[u8],
@@ -48,7 +50,7 @@ pub fn compare(
         compared prime (now (first .entry)) (now (second .entry)) (now (rows .entry)) (now (columns .entry)) (now (sheet .entry))
         .sheet ⌝ }
     ensures agreement { λ _. ⌜ Agreement prime (now (first .entry)) (now (second .entry)) ⌝ }
-    ensures limit { λ _. ⌜ BothLimited (now (first .entry)) (now (second .entry)) ⌝ }
+    ensures limit { λ r. ⌜ BothLimited (now (first .entry)) (now (second .entry)) (comparedFactors r) ⌝ }
 {
     if first.len() < key::SHORT {
         if second.len() < key::SHORT {
@@ -119,10 +121,10 @@ fn by_tables(
     both::run(
         first,
         &*first_starts,
-        first_counts.arrays,
+        first_counts,
         second,
         &*second_starts,
-        second_counts.arrays,
+        second_counts,
         rows,
         columns,
         sheet,

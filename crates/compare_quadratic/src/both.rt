@@ -1,10 +1,10 @@
 // The passes over two keys at one point of the field of p² elements, whose sides are prepared once for both.
+use crate::filled;
 use compare::Compared;
 use evaluate_quadratic::Values;
-use evaluate_quadratic::pass;
 use indexed::work;
+use key::Counts;
 use quadratic::Fp2;
-use records::Shape;
 use weights::table::LIMB_PLACES;
 use weights::table::PLACES;
 use weights_quadratic::table;
@@ -15,40 +15,43 @@ ghost use Rattle.quadratic.specs.Parts.{parts};
 ghost use Rattle.quadratic.specs.Quadratic.{quadratic};
 ghost use Rattle.weights.specs.Side.{Ready};
 ghost use Rattle.weights_quadratic.specs.Packed.{packed};
-ghost use Rattle.key.specs.Factors.{keyFactors};
 ghost use Rattle.comparison.specs.Compare.{likeness};
-ghost use Rattle.comparison.specs.Inner.{Evaluable, likenessAt, bothWritten};
+ghost use Rattle.comparison.specs.Inner.{Evaluable, factorsAt, likenessAt, bothWritten};
 ghost use Rattle.compare.specs.Answer.{comparedAnswer, comparedFactors};
 ghost use Rattle.evaluate_quadratic.specs.Answer.{valuesIn};
 ghost use Rattle.compare_quadratic.specs.Inner.{Told};
 
-// Whether the last arrays' three numbers are equal at a point, and how many factors were taken for both. The sheet ends with those of the
+// Whether the two keys' three numbers are equal at a point, and how many factors were taken for both. The sheet ends with those of the
 // second key's arrays over those of the first's. Weights of limbs are prepared where they are estimated to save more, in both keys
 // together, than they cost (`work`). Inner: both keys can be evaluated at the point on the sheet.
 pub(crate) fn run(
     first: &[u8],
     first_starts: &[u16],
-    first_arrays: usize,
+    first_counts: Counts,
     second: &[u8],
     second_starts: &[u16],
-    second_arrays: usize,
+    second_counts: Counts,
     rows: &[u32],
     columns: &[u32],
     sheet: &mut [u32],
 ) -> Compared
-    requires { ⌜ Evaluable quadratic (now first) (now «first_starts») «first_arrays» (now rows) (now columns) (length (now sheet)) ⌝ }
-    requires { ⌜ Evaluable quadratic (now second) (now «second_starts») «second_arrays» (now rows) (now columns) (length (now sheet)) ⌝ }
+    requires { ⌜ Evaluable quadratic (now first) (now «first_starts») «first_counts» (now rows) (now columns) (length (now sheet)) ⌝ }
+    requires { ⌜ Evaluable quadratic (now second) (now «second_starts») «second_counts» (now rows) (now columns) (length (now sheet)) ⌝ }
     ensures answer { λ r. ⌜
         comparedAnswer r ≡
-        likenessAt quadratic (now (first .entry)) (now (second .entry)) (now (rows .entry)) (now (columns .entry)) ⌝ }
-    ensures factors { λ r. ⌜ comparedFactors r ≡ keyFactors (now (first .entry)) + keyFactors (now (second .entry)) ⌝ }
+        likenessAt quadratic (now (first .entry)) «first_counts» (now (second .entry)) «second_counts» (now (rows .entry))
+        (now (columns .entry)) ⌝ }
+    ensures factors { λ r. ⌜
+        comparedFactors r ≡
+        factorsAt quadratic (now (first .entry)) «first_counts» (now (rows .entry)) (now (columns .entry))
+        + factorsAt quadratic (now (second .entry)) «second_counts» (now (rows .entry)) (now (columns .entry)) ⌝ }
     ensures sheet { λ _. ⌜
         now (sheet .exit) ≡
-        bothWritten quadratic (now (first .entry)) (now (second .entry)) (now (rows .entry)) (now (columns .entry)) «first_arrays»
-        «second_arrays» (now (sheet .entry)) ⌝ }
+        bothWritten quadratic (now (first .entry)) «first_counts» (now (second .entry)) «second_counts» (now (rows .entry))
+        (now (columns .entry)) (now (sheet .entry)) ⌝ }
 {
-    let first_saved = work::saved(first, first_starts, first_arrays);
-    let second_saved = work::saved(second, second_starts, second_arrays);
+    let first_saved = work::saved(first, first_starts, first_counts.arrays);
+    let second_saved = work::saved(second, second_starts, second_counts.arrays);
     if work::limbs_pay(
         first_saved + second_saved,
         rows.len() / 2 + columns.len() / 2,
@@ -58,10 +61,10 @@ pub(crate) fn run(
         return by_sides(
             first,
             first_starts,
-            first_arrays,
+            first_counts,
             second,
             second_starts,
-            second_arrays,
+            second_counts,
             rows,
             columns,
             &mut rowwise,
@@ -74,10 +77,10 @@ pub(crate) fn run(
     by_sides(
         first,
         first_starts,
-        first_arrays,
+        first_counts,
         second,
         second_starts,
-        second_arrays,
+        second_counts,
         rows,
         columns,
         &mut rowwise,
@@ -90,55 +93,55 @@ pub(crate) fn run(
 fn by_sides(
     first: &[u8],
     first_starts: &[u16],
-    first_arrays: usize,
+    first_counts: Counts,
     second: &[u8],
     second_starts: &[u16],
-    second_arrays: usize,
+    second_counts: Counts,
     rows: &[u32],
     columns: &[u32],
     rowwise: &mut [u64],
     columnwise: &mut [u64],
     sheet: &mut [u32],
 ) -> Compared
-    requires { ⌜ Evaluable quadratic (now first) (now «first_starts») «first_arrays» (now rows) (now columns) (length (now sheet)) ⌝ }
-    requires { ⌜ Evaluable quadratic (now second) (now «second_starts») «second_arrays» (now rows) (now columns) (length (now sheet)) ⌝ }
+    requires { ⌜ Evaluable quadratic (now first) (now «first_starts») «first_counts» (now rows) (now columns) (length (now sheet)) ⌝ }
+    requires { ⌜ Evaluable quadratic (now second) (now «second_starts») «second_counts» (now rows) (now columns) (length (now sheet)) ⌝ }
     requires { ⌜ Ready packed (now rowwise) × Ready packed (now columnwise) ⌝ }
     ensures answer { λ r. ⌜
         comparedAnswer r ≡
-        likenessAt quadratic (now (first .entry)) (now (second .entry)) (now (rows .entry)) (now (columns .entry)) ⌝ }
-    ensures factors { λ r. ⌜ comparedFactors r ≡ keyFactors (now (first .entry)) + keyFactors (now (second .entry)) ⌝ }
+        likenessAt quadratic (now (first .entry)) «first_counts» (now (second .entry)) «second_counts» (now (rows .entry))
+        (now (columns .entry)) ⌝ }
+    ensures factors { λ r. ⌜
+        comparedFactors r ≡
+        factorsAt quadratic (now (first .entry)) «first_counts» (now (rows .entry)) (now (columns .entry))
+        + factorsAt quadratic (now (second .entry)) «second_counts» (now (rows .entry)) (now (columns .entry)) ⌝ }
     ensures sheet { λ _. ⌜
         now (sheet .exit) ≡
-        bothWritten quadratic (now (first .entry)) (now (second .entry)) (now (rows .entry)) (now (columns .entry)) «first_arrays»
-        «second_arrays» (now (sheet .entry)) ⌝ }
+        bothWritten quadratic (now (first .entry)) «first_counts» (now (second .entry)) «second_counts» (now (rows .entry))
+        (now (columns .entry)) (now (sheet .entry)) ⌝ }
 {
-    let most = Shape {
-        rows: (rows.len() / 2) as u8,
-        columns: (columns.len() / 2) as u8,
-    };
     table::prepare(rows, rowwise);
     table::prepare(columns, columnwise);
-    let first_factors = pass::over(
+    let one = filled::triple(
         first,
         first_starts,
-        first_arrays,
-        most,
+        first_counts,
+        rows,
+        columns,
         rowwise,
         columnwise,
         sheet,
     );
-    let one = pass::last(sheet, first_arrays);
-    let second_factors = pass::over(
+    let other = filled::triple(
         second,
         second_starts,
-        second_arrays,
-        most,
+        second_counts,
+        rows,
+        columns,
         rowwise,
         columnwise,
         sheet,
     );
-    let other = pass::last(sheet, second_arrays);
-    likeness(one, other, first_factors + second_factors)
+    likeness(one.values, other.values, one.factors + other.factors)
 }
 
 // Whether A, B and C are equal, both parts of each, where so many factors were taken.

@@ -1,5 +1,6 @@
-// Two keys compared at a point over the field of p² elements (E2): as crate compare does over the field of p.
+// Two keys compared at a point over the field of p² elements (02, E2 and E7): as crate compare does over the field of p.
 mod both;
+mod filled;
 
 use compare::Compared;
 use key::Checked;
@@ -12,9 +13,10 @@ ghost use Rattle.comparison.specs.AgreementBound.{Agreement};
 ghost use Rattle.comparison.specs.Compare.{compared, BothLimited};
 ghost use Rattle.compare.specs.Answer.{comparedAnswer, comparedFactors};
 
-// Whether two keys of one shape have the same A, B and C at a point, two numbers a coordinate, u first. The sheet ends as if the first key
-// and then the second had been evaluated on it, and a refused call leaves it. `answer` and `agreement` together are the agreement bound of
-// this call where q is p², as they are demand 3 for `compare::compare`.
+// Whether two keys have the same A, B and C at a point, two numbers a coordinate, u first, filled with zeros as by `compare::compare` where
+// their shapes differ. The sheet ends as if the first key and then the second had been evaluated on it, each at its own leading
+// coordinates, and a refused call leaves it. `answer` and `agreement` together are the agreement bound of this call where q is p², as they
+// are demand 3 for `compare::compare`.
 pub fn compare(
     first: &[u8],
     second: &[u8],
@@ -35,7 +37,7 @@ pub fn compare(
         compared quadratic (now (first .entry)) (now (second .entry)) (now (rows .entry)) (now (columns .entry))
         (now (sheet .entry)) .sheet ⌝ }
     ensures agreement { λ _. ⌜ Agreement quadratic (now (first .entry)) (now (second .entry)) ⌝ }
-    ensures limit { λ _. ⌜ BothLimited (now (first .entry)) (now (second .entry)) ⌝ }
+    ensures limit { λ r. ⌜ BothLimited (now (first .entry)) (now (second .entry)) (comparedFactors r) ⌝ }
 {
     if first.len() < key::SHORT {
         if second.len() < key::SHORT {
@@ -106,10 +108,10 @@ fn by_tables(
     both::run(
         first,
         &*first_starts,
-        first_counts.arrays,
+        first_counts,
         second,
         &*second_starts,
-        second_counts.arrays,
+        second_counts,
         rows,
         columns,
         sheet,

@@ -1,5 +1,5 @@
--- The agreement bound at two keys of one row bit and one column bit, one cell at the last place against none.
--- Nothing that it assumes stands in the way.
+-- The agreement bound at two keys of one row bit and one column bit, one cell at the last place against none; and at two keys of unequal
+-- shapes, a cell alone against its growth at the last place. Nothing that it assumes stands in the way.
 use Prim.Native.Nat.{_≤_}
 use mathlib.Core.Path.{refl}
 use native.Mathlib.Omega.{arith}
@@ -7,10 +7,11 @@ use lib.ListN.{replicate}
 use Rattle.algebra.specs.Points.{countPoints}
 use Rattle.field.specs.Fp.{p}
 use Rattle.field.specs.Scalars.{prime}
-use Rattle.arrays.specs.Arrays.{B}
+use Rattle.arrays.specs.Arrays.{A, B}
 use Rattle.comparison.specs.AgreementBound.{AcceptedKey, Sheets, answerAt, isSame, DifferInCell}
 use Rattle.comparison.proofs.Agreement.{prime-agreement}
 use Rattle.comparison.proofs.Examples.{corner, none}
+use Rattle.comparison.proofs.ExamplesOfGrowth.{small, grown}
 use Rattle.comparison.proofs.Computing.{comparing}
 
 corner-accepted : AcceptedKey 1 1 corner
@@ -53,4 +54,48 @@ differ =
 -- p² - (p - 1)², of the p² points
 corner-bounded : countPoints p 2 (λ point. isSame (answerAt prime 1 corner none point (replicate 3 9))) ≤ 4294967293
 unfolding sheets
-corner-bounded = prime-agreement corner none 1 1 corner-accepted none-accepted .differ sheets differ
+corner-bounded = prime-agreement corner none 1 1 1 1 corner-accepted none-accepted .differ sheets differ
+
+-- ---- unequal shapes
+
+small-accepted : AcceptedKey 0 0 small
+unfolding comparing
+small-accepted =
+    record {
+      counts = record { arrays = 1; cells = 1; calls = 0; rows = 0; columns = 0 };
+      accepted = refl;
+      row-bits = refl;
+      column-bits = refl;
+    }
+
+grown-accepted : AcceptedKey 1 1 (grown 1 1)
+unfolding comparing
+grown-accepted =
+    record {
+      counts = record { arrays = 2; cells = 1; calls = 1; rows = 1; columns = 1 };
+      accepted = refl;
+      row-bits = refl;
+      column-bits = refl;
+    }
+
+grown-sheets : Sheets prime 2 small (grown 1 1)
+unfolding comparing
+grown-sheets =
+    record {
+      lent = λ point. replicate 6 9;
+      long-enough = λ point at. record { for-first = omega arith; for-second = omega arith };
+    }
+
+-- beyond its one row and one column the smaller matrix is zero, and the larger is not
+grown-differ : DifferInCell 1 1 small (grown 1 1)
+unfolding comparing
+grown-differ =
+    record {
+      part = A;
+      differ =
+          record { row = 1; column = 1; row-inside = omega arith; column-inside = omega arith; unequal = λ e. omega (arith, e) };
+    }
+
+grown-bounded : countPoints p 2 (λ point. isSame (answerAt prime 1 small (grown 1 1) point (replicate 6 9))) ≤ 4294967293
+unfolding grown-sheets
+grown-bounded = prime-agreement small (grown 1 1) 0 0 1 1 small-accepted grown-accepted .differ grown-sheets grown-differ

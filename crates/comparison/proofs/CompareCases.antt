@@ -1,19 +1,20 @@
 -- What compare answers and leaves on the sheet, by what its judgements come to.
-use Prim.Native.Nat.{ℕ, _+_}
+use Prim.Native.Nat.{ℕ, _+_, _-_, _*_, _≤_}
 use mathlib.Core.List.{List}
-use mathlib.Core.Path.{_≡_, sym, ap, _∙_}
+use mathlib.Core.Path.{_≡_, refl, sym, ap, _∙_}
+use native.Mathlib.Nat.{mul-add, mul-le-mul-right}
 use native.Mathlib.Omega.{arith}
 use lib.ListN.{length}
 use Rattle.refusal.specs.Outcome.{Outcome, given, refused}
 use Rattle.refusal.specs.declared.Which.{Which}
 use Rattle.field.specs.Scalars.{Scalars}
 use Rattle.key.specs.Check.{checkedKey}
-use Rattle.key.specs.Factors.{keyFactors}
 use Rattle.key.specs.declared.Counts.{Counts}
 use Rattle.key.proofs.FactorLimits.{key-limited}
-use Rattle.judge.specs.Judged.{pairJudged}
-use Rattle.evaluation.specs.Evaluate.{lastValues, evaluated}
-use Rattle.comparison.specs.Compare.{Answer, Comparison, refusedFor, naming, likeness, compared, BothLimited}
+use Rattle.judge.specs.Judged.{together, pairJudged}
+use Rattle.judge.proofs.KeysTogether.{pair-known}
+use Rattle.comparison.specs.Compare.{Answer, Comparison, refusedFor, naming, likeness, compared, bothLimit, BothLimited}
+use Rattle.comparison.specs.Filled.{filledValues, filledFactors, ownSheet}
 
 -- a refused call: the sheet is as it was
 abbrev pub refusedCall : Which → ℕ → ℕ → List ℕ → Comparison
@@ -49,17 +50,17 @@ module _ (𝓢 : Scalars) (first second rows columns sheet : List ℕ) where
           ∙ naming-given Which.Second (checkedKey second) sheet _ other accepts'
           ∙ naming-refused Which.Neither (pairJudged (𝓢 .width) rows columns (length sheet) one other) sheet _ number place e
 
-      pub both-evaluated : (counts : Counts) → pairJudged (𝓢 .width) rows columns (length sheet) one other ≡ given counts →
+      pub both-evaluated : (both : Counts) → pairJudged (𝓢 .width) rows columns (length sheet) one other ≡ given both →
           compared 𝓢 first second rows columns sheet
           ≡ record {
-            answer = likeness 𝓢 (lastValues 𝓢 first rows columns) (lastValues 𝓢 second rows columns);
-            factors = keyFactors first + keyFactors second;
-            sheet = evaluated 𝓢 second rows columns (evaluated 𝓢 first rows columns sheet .sheet) .sheet;
+            answer = likeness 𝓢 (filledValues 𝓢 first one rows columns) (filledValues 𝓢 second other rows columns);
+            factors = filledFactors first one (both .rows) (both .columns) + filledFactors second other (both .rows) (both .columns);
+            sheet = ownSheet 𝓢 second other rows columns (ownSheet 𝓢 first one rows columns sheet);
           }
-      both-evaluated counts e =
+      both-evaluated both e =
           naming-given Which.First (checkedKey first) sheet _ one accepts
           ∙ naming-given Which.Second (checkedKey second) sheet _ other accepts'
-          ∙ naming-given Which.Neither (pairJudged (𝓢 .width) rows columns (length sheet) one other) sheet _ counts e
+          ∙ naming-given Which.Neither (pairJudged (𝓢 .width) rows columns (length sheet) one other) sheet _ both e
 
 -- what is answered and left on the sheet
 pub promised : (𝓢 : Scalars) (first second rows columns sheet : List ℕ) (answer : Answer) (factors : ℕ) (after : List ℕ) →
@@ -71,6 +72,50 @@ promised 𝓢 first second rows columns sheet answer factors after e = (
   (sym (ap (λ (x : Comparison). x .factors) e), sym (ap (λ (x : Comparison). x .sheet) e)),
 )
 
-pub both-limited : (first second : List ℕ) → BothLimited first second
-both-limited first second one other accepts accepts' =
-    omega (arith, key-limited first one accepts, key-limited second other accepts')
+-- ---- the limit of the factors
+
+-- what two keys have at most, each of a limit s·a or t·b of its own and x or y unused coordinates, where no side is larger than m
+limits-add : (s t m a b x y factors others : ℕ) → s ≤ m → t ≤ m → x ≤ m → y ≤ m → factors ≤ s * a → others ≤ t * b →
+    factors + x + (others + y) ≤ m * (a + b) + 2 * m
+limits-add s t m a b x y factors others l l' few few' limited limited' =
+    omega (arith, mul-le-mul-right a l, mul-le-mul-right b l', mul-add m a b)
+
+module _ (first second : List ℕ) (one other : Counts) (accepts : checkedKey first ≡ given one) (accepts' : checkedKey second ≡ given other)
+  where
+    filled-limited :
+        filledFactors first one (together one other .rows) (together one other .columns)
+        + filledFactors second other (together one other .rows) (together one other .columns)
+        ≤ bothLimit one other
+    filled-limited =
+        let both = together one other in
+        let entries : both .cells + both .calls ≡ one .cells + one .calls + (other .cells + other .calls) = omega arith in
+        rw entries
+        (limits-add (one .rows + one .columns) (other .rows + other .columns) (both .rows + both .columns)
+        (one .cells + one .calls) (other .cells + other .calls)
+        (both .rows - one .rows + (both .columns - one .columns)) (both .rows - other .rows + (both .columns - other .columns)) _ _
+        (omega arith) (omega arith) (omega arith) (omega arith)
+        (key-limited first one accepts) (key-limited second other accepts'))
+
+pub both-limited : (𝓢 : Scalars) (first second rows columns sheet : List ℕ) →
+    BothLimited first second (compared 𝓢 first second rows columns sheet .factors)
+both-limited 𝓢 first second rows columns sheet one other accepts accepts' =
+    go (pairJudged (𝓢 .width) rows columns (length sheet) one other) refl
+  where
+    go : (o : Outcome Counts) → pairJudged (𝓢 .width) rows columns (length sheet) one other ≡ o →
+        compared 𝓢 first second rows columns sheet .factors ≤ bothLimit one other
+    go (refused number place) e =
+        let none = ap (λ (x : Comparison). x .factors)
+        (neither-refused 𝓢 first second rows columns sheet one accepts other accepts' number place e) in
+        omega (arith, none)
+    go (given both) e =
+        let are = pair-known (𝓢 .width) rows columns one other (length sheet) both e .0 in
+        let counted = ap (λ (x : Comparison). x .factors)
+        (both-evaluated 𝓢 first second rows columns sheet one accepts other accepts' both e)
+        ∙ ap (λ (c : Counts). filledFactors first one (c .rows) (c .columns) + filledFactors second other (c .rows) (c .columns)) are in
+        omega (arith, counted, filled-limited first second one other accepts accepts')
+
+-- so are the factors that a call tells
+pub both-told : (𝓢 : Scalars) (first second rows columns sheet : List ℕ) (factors : ℕ) →
+    factors ≡ compared 𝓢 first second rows columns sheet .factors → BothLimited first second factors
+both-told 𝓢 first second rows columns sheet factors told one other accepts accepts' =
+    omega (arith, told, both-limited 𝓢 first second rows columns sheet one other accepts accepts')

@@ -15,13 +15,13 @@ use Rattle.comparison.proofs.CompareCases.{refusedCall}
 use Rattle.comparison.proofs.Computing.{comparing}
 
 -- the key of one sparse array of n row bits and n' column bits
-abbrev sparse : ℕ → ℕ → List Cell → List ℕ
+abbrev pub sparse : ℕ → ℕ → List Cell → List ℕ
 sparse n n' list = keyBytes false n n' (record { row-bits = n; column-bits = n'; entries = cells list } ∷ [])
 
-abbrev cell : ℕ → ℕ → ℕ → ℕ → ℕ → Cell
+abbrev pub cell : ℕ → ℕ → ℕ → ℕ → ℕ → Cell
 cell row column a b c = record { row = row; column = column; values = record { a = a; b = b; c = c } }
 
-abbrev answers : List Comparison → List Answer
+abbrev pub answers : List Comparison → List Answer
 answers = map (λ c. c .answer)
 
 -- one cell at the last place against none: the same exactly where a coordinate is 0
@@ -109,9 +109,6 @@ refusals =
     compared prime [] (1 ∷ []) [] [] [] ∷
     compared prime key [] [] [] [] ∷
     compared prime [] [] [] [] [] ∷
-    -- shapes that differ in rows and in columns
-    compared prime key (sparse 0 1 []) [] [] [] ∷
-    compared prime (sparse 1 0 []) key [] [] [] ∷
     -- no row coordinate, no column coordinate, and coordinates p or more, the row first
     compared prime key single [] [] [] ∷
     compared prime key single (p ∷ []) [] [] ∷
@@ -124,7 +121,6 @@ refusals =
 refused-all :
     refusals ≡
     refusedCall Which.First 2 0 [] ∷ refusedCall Which.Second 2 0 [] ∷ refusedCall Which.First 2 0 [] ∷
-    refusedCall Which.Neither 35 0 [] ∷ refusedCall Which.Neither 35 0 [] ∷
     refusedCall Which.Neither 21 0 [] ∷ refusedCall Which.Neither 22 0 [] ∷
     refusedCall Which.Neither 23 0 [] ∷ refusedCall Which.Neither 23 1 [] ∷
     refusedCall Which.Neither 31 6 (replicate 5 9) ∷ refusedCall Which.Neither 31 6 (replicate 5 9) ∷ []

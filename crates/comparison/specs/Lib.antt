@@ -1,3 +1,4 @@
+pub mod Filled
 pub mod Compare
 pub mod AgreementBound
 pub mod Inner

@@ -1,6 +1,6 @@
 -- Evaluate, cell and compare go by what check says of a key and by its arrays alone, and so they answer alike on a key and on its copy in
 -- the other edition.
-use Prim.Native.Nat.{ℕ, _+_}
+use Prim.Native.Nat.{ℕ, _+_, _-_}
 use mathlib.Core.List.{List}
 use mathlib.Core.Path.{_≡_, sym, ap₂, _∙_}
 use lib.ListN.{length}
@@ -12,14 +12,14 @@ use Rattle.multilinear.specs.Weight.{bits}
 use Rattle.arrays.specs.Arrays.{Array}
 use Rattle.arrays.specs.Factors.{factorsIn}
 use Rattle.key.specs.Check.{checkedKey}
-use Rattle.key.specs.Factors.{keyFactors}
 use Rattle.key.specs.KeyArrays.{keyArrays}
 use Rattle.key.specs.declared.Counts.{Counts}
 use Rattle.judge.specs.Judged.{pointJudged, placeJudged, sheetJudged, pairJudged}
 use Rattle.evaluation.specs.Cell.{denseValues, celled}
-use Rattle.evaluation.specs.Evaluate.{lastOf, valuesAt, lastValues, Evaluation, concluded, evaluated}
+use Rattle.evaluation.specs.Evaluate.{ValuesOf, lastOf, valuesAt, Evaluation, concluded, evaluated}
 use Rattle.evaluation.specs.Sheet.{placesOf}
 use Rattle.comparison.specs.Compare.{naming, likeness, compared}
+use Rattle.comparison.specs.Filled.{used, unusedWeight, multiplied, filledValues, filledFactors, ownSheet}
 use Rattle.editions.specs.Move.{movedKey}
 use Rattle.editions.specs.OtherEdition.{Alike}
 use Rattle.editions.proofs.MovedKey.{Movable, moved-accepted, moved-arrays}
@@ -31,6 +31,19 @@ evaluation 𝓢 rows columns sheet checked arrays =
     (λ counts. record { values = valuesAt 𝓢 arrays rows columns (lastOf arrays); factors = factorsIn arrays })
     (λ counts. valuesAt 𝓢 arrays rows columns)
     sheet
+
+-- a key's triple and factors in a comparison, and the sheet that its evaluation leaves, by the same
+abbrev filledBy : (𝓢 : Scalars) → List Array → Counts → List ℕ → List ℕ → ValuesOf 𝓢
+filledBy 𝓢 arrays own rows columns =
+    multiplied 𝓢 (valuesAt 𝓢 arrays (used 𝓢 (own .rows) rows) (used 𝓢 (own .columns) columns) (lastOf arrays))
+    (𝓢 .arithmetic .mul (unusedWeight 𝓢 (own .rows) rows) (unusedWeight 𝓢 (own .columns) columns))
+
+abbrev factorsBy : List Array → Counts → Counts → ℕ
+factorsBy arrays own both = factorsIn arrays + ((both .rows - own .rows) + (both .columns - own .columns))
+
+abbrev sheetBy : Scalars → Outcome Counts → List Array → Counts → List ℕ → List ℕ → List ℕ → List ℕ
+sheetBy 𝓢 checked arrays own rows columns sheet =
+    evaluation 𝓢 (used 𝓢 (own .rows) rows) (used 𝓢 (own .columns) columns) sheet checked arrays .sheet
 
 module _ (𝓢 : Scalars) (one other : List ℕ) (checks : checkedKey one ≡ checkedKey other) (arrays : keyArrays one ≡ keyArrays other) where
   evaluates-alike : (rows columns sheet : List ℕ) → evaluated 𝓢 one rows columns sheet ≡ evaluated 𝓢 other rows columns sheet
@@ -53,9 +66,9 @@ module _ (𝓢 : Scalars) (one other : List ℕ) (checks : checkedKey one ≡ ch
       naming Which.Second (checkedKey second) sheet (λ counts'.
       naming Which.Neither (pairJudged (𝓢 .width) rows columns (length sheet) counts counts') sheet (λ both.
       record {
-        answer = likeness 𝓢 (valuesAt 𝓢 arrays rows columns (lastOf arrays)) (lastValues 𝓢 second rows columns);
-        factors = factorsIn arrays + keyFactors second;
-        sheet = evaluated 𝓢 second rows columns (evaluation 𝓢 rows columns sheet checked arrays .sheet) .sheet;
+        answer = likeness 𝓢 (filledBy 𝓢 arrays counts rows columns) (filledValues 𝓢 second counts' rows columns);
+        factors = factorsBy arrays counts both + filledFactors second counts' (both .rows) (both .columns);
+        sheet = ownSheet 𝓢 second counts' rows columns (sheetBy 𝓢 checked arrays counts rows columns sheet);
       }))))
       checks arrays
 
@@ -67,9 +80,9 @@ module _ (𝓢 : Scalars) (one other : List ℕ) (checks : checkedKey one ≡ ch
       naming Which.Second checked sheet (λ counts'.
       naming Which.Neither (pairJudged (𝓢 .width) rows columns (length sheet) counts counts') sheet (λ both.
       record {
-        answer = likeness 𝓢 (lastValues 𝓢 first rows columns) (valuesAt 𝓢 arrays rows columns (lastOf arrays));
-        factors = keyFactors first + factorsIn arrays;
-        sheet = evaluation 𝓢 rows columns (evaluated 𝓢 first rows columns sheet .sheet) checked arrays .sheet;
+        answer = likeness 𝓢 (filledValues 𝓢 first counts rows columns) (filledBy 𝓢 arrays counts' rows columns);
+        factors = filledFactors first counts (both .rows) (both .columns) + factorsBy arrays counts' both;
+        sheet = sheetBy 𝓢 checked arrays counts' rows columns (ownSheet 𝓢 first counts rows columns sheet);
       }))))
       checks arrays
 

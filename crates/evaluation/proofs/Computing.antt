@@ -5,12 +5,12 @@ use Rattle.multilinear.specs.Matrix.{moved}
 use Rattle.multilinear.specs.Weight.{weight, bits}
 use Rattle.arrays.specs.Dense.{summed, entriesMatrix, matricesBelow}
 use Rattle.key.proofs.Computing.{checking}
-use Rattle.judge.specs.Judged.{firstOver, pointJudged, placeJudged, sheetJudged, shapesJudged}
+use Rattle.judge.specs.Judged.{firstOver, pointJudged, placeJudged, sheetJudged}
 use Rattle.evaluation.specs.Evaluate.{concluded}
 use Rattle.evaluation.specs.Sheet.{wordsBelow}
 
 unfoldable pub evaluating : Unit {0}
 unfolding
-    checking firstOver pointJudged placeJudged sheetJudged shapesJudged weight bits weighted sumBelow moved summed entriesMatrix
+    checking firstOver pointJudged placeJudged sheetJudged weight bits weighted sumBelow moved summed entriesMatrix
     matricesBelow concluded wordsBelow
 evaluating = tt

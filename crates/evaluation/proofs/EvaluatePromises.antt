@@ -18,6 +18,7 @@ use Rattle.key.specs.declared.Counts.{Counts}
 use Rattle.key.proofs.Acceptance.{acceptance}
 use Rattle.judge.specs.Judged.{sheetJudged}
 use Rattle.judge.proofs.JudgementsInOrder.{Admitted}
+use Rattle.judge.proofs.KeysTogether.{few-records}
 use Rattle.evaluation.specs.Evaluate.{ValuesOf, Counted, Evaluation, concluded}
 use Rattle.evaluation.specs.Sheet.{wordsOf, placesOf, laid}
 
@@ -27,7 +28,7 @@ module _ (key : List ℕ) (counts : Counts) (accepted : checkedKey key ≡ given
   arrays-counted = ap (λ (c : Counts). c .arrays) (acceptance key counts accepted .counted)
 
   pub at-most-1024 : counts .arrays ≤ 1024
-  at-most-1024 = omega (arith, acceptance key counts accepted .at-most-1024, arrays-counted)
+  at-most-1024 = few-records key counts accepted .0
 
   pub table-indexed : (after : List ℕ) → Indexing key after → Indexed key after
   table-indexed after indexing =

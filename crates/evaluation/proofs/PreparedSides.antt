@@ -1,17 +1,19 @@
 -- The sides of a point, prepared as tables, in any field: they weigh as its coordinates do.
-use Prim.Native.Nat.{ℕ, suc, _<_, _≤_}
+use Prim.Native.Nat.{ℕ, suc, _-_, _<_, _≤_}
 use mathlib.Core.List.{List}
-use mathlib.Core.Path.{_≡_}
+use mathlib.Core.Path.{_≡_, ap, _∙_}
 use native.Mathlib.Nat.{mul-le-mul-left}
 use native.Mathlib.Omega.{arith}
-use lib.ListN.{length}
+use lib.ListN.{length, drop, length-drop}
+use lib.Seq.{take-all}
 use Rattle.field.specs.Scalars.{Scalars, elementAt}
 use Rattle.field.proofs.Elements.{element-valid}
 use Rattle.records.specs.declared.Shape.{Shape}
+use Rattle.multilinear.specs.Weight.{weight}
 use Rattle.arrays.proofs.SidesSplit.{factors-split}
 use Rattle.weights.specs.Side.{pairs, prepared, Tabled}
 use Rattle.weights.specs.Words.{Words, LawfulWords}
-use Rattle.weights.proofs.TableWeights.{weighs-as}
+use Rattle.weights.proofs.TableWeights.{weighs-from}
 use Rattle.key.specs.KeyArrays.{keyArrays}
 use Rattle.judge.specs.Inner.{Coordinates, AtPoint}
 use Rattle.evaluation.specs.Evaluate.{valuesAt}
@@ -36,8 +38,17 @@ module _ (𝓦 : Words) (𝓛 : LawfulWords 𝓦) where
   prepared-weigh n numbers table side tabled =
       record {
         splits = factors-split (𝓢 .arithmetic) (𝓛 .lawful .field .ring) (pairs 𝓦 table);
-        weighs = weighs-as 𝓦 𝓛 n (𝓢 .elements numbers) table (side .enough) (coordinate-valid n numbers side) tabled;
+        weighs = λ k x l.
+            weighs-from 𝓦 𝓛 (𝓢 .elements numbers) table (coordinate-valid n numbers side) tabled 0 k x (omega (arith, side .enough));
       }
+
+  -- what a number weighs by the coordinates behind the first n, by the table and by themselves
+  pub behind-weighed : (n : ℕ) (numbers table : List ℕ) → Coordinates 𝓢 n numbers → Tabled 𝓦 (𝓢 .elements numbers) table → (x : ℕ) →
+      prepared 𝓦 table .factor (length (𝓢 .elements numbers)) n x ≡ weight (𝓢 .arithmetic) x (drop n (𝓢 .elements numbers))
+  behind-weighed n numbers table side tabled x =
+      let all = 𝓢 .elements numbers in
+      weighs-from 𝓦 𝓛 all table (coordinate-valid n numbers side) tabled n (length all - n) x (omega (arith, side .enough))
+      ∙ ap (weight (𝓢 .arithmetic) x) (take-all (length all - n) (drop n all) (omega (arith, length-drop n all)))
 
   module _ (key rows columns : List ℕ) (point : AtPoint 𝓢 key rows columns) (rowwise columnwise : List ℕ)
       (tabled : Tabled 𝓦 (𝓢 .elements rows) rowwise) (tabled' : Tabled 𝓦 (𝓢 .elements columns) columnwise) where

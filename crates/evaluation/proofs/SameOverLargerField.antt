@@ -35,7 +35,7 @@ take-map f (suc k) [] = refl
 take-map {X} {Y} f (suc k) (x ∷ xs) = ap (λ (ys : List Y). f x ∷ ys) (take-map f k xs)
 
 module _ (𝓢 : Scalars) (𝓛 : Lawful 𝓢) where
-  elements-same : (numbers : List ℕ) → 𝓢 .elements (sameNumbersIn 𝓢 numbers) ≡ map (𝓢 .embed) numbers
+  pub elements-same : (numbers : List ℕ) → 𝓢 .elements (sameNumbersIn 𝓢 numbers) ≡ map (𝓢 .embed) numbers
   unfolding flatMap
   elements-same [] = 𝓛 .none-made
   elements-same (x ∷ numbers) =

@@ -5,7 +5,7 @@ use mathlib.Core.Path.{_≡_, sym, ap, _∙_}
 use native.Mathlib.Nat.{mul-zero, mul-suc, add-comm}
 use native.Mathlib.Omega.{arith}
 use lib.ListN.{length, getD, take, drop, length-drop, take-append-drop}
-use lib.Seq.{length-take-le, drop-drop}
+use lib.Seq.{length-take-le, drop-drop, take-add}
 use Rattle.algebra.specs.Digits.{digits}
 use Rattle.algebra.specs.Points.{Below}
 use Rattle.algebra.proofs.CoordinatesBelow.{below-take, below-drop}
@@ -51,6 +51,26 @@ module _ (𝓢 : Scalars) (𝓛 : Lawful 𝓢) where
   elements-count (suc n) list e =
       let b = begins list (omega (arith, mul-suc w n)) in
       ap length (b .made) ∙ ap suc (elements-count n (drop w list) (length-drop w list ∙ omega (arith, mul-suc w n)))
+
+  -- the first n elements are made of the first w·n numbers, and the others of those behind
+  pub elements-take : (n : ℕ) (list : List ℕ) → w * n ≤ length list → 𝓢 .elements (take (w * n) list) ≡ take n (𝓢 .elements list)
+  elements-take zero list l = ap (λ (m : ℕ). 𝓢 .elements (take m list)) (mul-zero w) ∙ 𝓛 .none-made
+  elements-take (suc n) list l =
+      let b = begins list (omega (arith, mul-suc w n)) in
+      ap (λ (m : ℕ). 𝓢 .elements (take m list)) (mul-suc w n ∙ add-comm (w * n) w)
+      ∙ ap (𝓢 .elements) (take-add w (w * n) list ∙ ap (λ (xs : List ℕ). xs ++ take (w * n) (drop w list)) (sym (b .laid-out)))
+      ∙ 𝓛 .made-again (b .first) (take (w * n) (drop w list))
+      ∙ ap (λ (xs : List Element). b .first ∷ xs) (elements-take n (drop w list) (omega (arith, mul-suc w n, length-drop w list)))
+      ∙ ap (take (suc n)) (sym (b .made))
+
+  pub elements-drop : (n : ℕ) (list : List ℕ) → w * n ≤ length list → 𝓢 .elements (drop (w * n) list) ≡ drop n (𝓢 .elements list)
+  elements-drop zero list l = ap (λ (m : ℕ). 𝓢 .elements (drop m list)) (mul-zero w)
+  elements-drop (suc n) list l =
+      let b = begins list (omega (arith, mul-suc w n)) in
+      ap (λ (m : ℕ). 𝓢 .elements (drop m list)) (mul-suc w n ∙ add-comm (w * n) w)
+      ∙ ap (𝓢 .elements) (sym (drop-drop (w * n) w list))
+      ∙ elements-drop n (drop w list) (omega (arith, mul-suc w n, length-drop w list))
+      ∙ ap (drop (suc n)) (sym (b .made))
 
   -- the element numbered i is made of the numbers from w·i on
   pub element-at : (list : List ℕ) (i : ℕ) → w * suc i ≤ length list →

@@ -6,5 +6,6 @@ pub mod JudgementCases
 pub mod NothingRefused
 -- Judgements in order: a first one, another behind it, and then that of the sheet.
 pub mod JudgementsInOrder
--- The shapes of two keys, case by case; and what is known of two that are of one shape: the counts to which both are held.
-pub mod KeysOfOneShape
+-- Two keys that are judged together, by their counts: what is known where nothing is refused, and when nothing is. The counts of an
+-- accepted key are few enough for it.
+pub mod KeysTogether

@@ -17,7 +17,7 @@ use Rattle.field.proofs.Elements.{elements-count}
 use Rattle.key.specs.Check.{checkedKey}
 use Rattle.key.specs.declared.Counts.{Counts}
 use Rattle.key.proofs.Acceptance.{acceptance}
-use Rattle.judge.specs.Inner.{AtPoint}
+use Rattle.judge.specs.Inner.{Coordinates, AtPoint}
 use Rattle.judge.specs.Judged.{firstOver, pointJudged, placeJudged, sheetJudged}
 use Rattle.judge.proofs.FirstOver.{none-over, all-below}
 use Rattle.judge.proofs.JudgementCases.{sheet-short, sheet-enough, row-outside, column-outside, both-inside, row-count-wrong, column-count-wrong, row-over, column-over, point-given}
@@ -88,26 +88,29 @@ point-gives width rows columns c counts e =
       },
     )
 
+-- the coordinates of one side, of which an array of n bits uses the first n
+pub coordinates-of : (𝓢 : Scalars) → Lawful 𝓢 → (n N : ℕ) (numbers : List ℕ) → n ≤ N → N ≤ 30 → length numbers ≡ 𝓢 .width * N →
+    Below p numbers → Coordinates 𝓢 n numbers
+coordinates-of 𝓢 𝓛 n N numbers fits few are below =
+    let these = elements-count 𝓢 𝓛 N numbers are in
+    record {
+      whole = are ∙ ap (λ (m : ℕ). 𝓢 .width * m) (sym these);
+      enough = omega (arith, these);
+      few = omega (arith, these);
+      below = below;
+    }
+
 -- an accepted key, and a point of its shape
 pub at-point : (𝓢 : Scalars) → Lawful 𝓢 → (key rows columns : List ℕ) (counts : Counts) → checkedKey key ≡ given counts →
     PointOf (𝓢 .width) (counts .rows) (counts .columns) rows columns → AtPoint 𝓢 key rows columns
 at-point 𝓢 𝓛 key rows columns counts accepted point =
     let well = acceptance key counts accepted .well-formed in
-    let these = elements-count 𝓢 𝓛 (counts .rows) rows (point .rows-are) in
-    let those = elements-count 𝓢 𝓛 (counts .columns) columns (point .columns-are) in
     record {
       counts = counts;
       accepted = accepted;
-      rows-given = record {
-        whole = point .rows-are ∙ ap (λ (m : ℕ). 𝓢 .width * m) (sym these);
-        enough = omega (arith, these);
-        few = omega (arith, these, well .rows-at-most-30);
-        below = point .rows-below;
-      };
-      columns-given = record {
-        whole = point .columns-are ∙ ap (λ (m : ℕ). 𝓢 .width * m) (sym those);
-        enough = omega (arith, those);
-        few = omega (arith, those, well .columns-at-most-30);
-        below = point .columns-below;
-      };
+      rows-given =
+          coordinates-of 𝓢 𝓛 _ (counts .rows) rows (omega arith) (well .rows-at-most-30) (point .rows-are) (point .rows-below);
+      columns-given =
+          coordinates-of 𝓢 𝓛 _ (counts .columns) columns (omega arith) (well .columns-at-most-30) (point .columns-are)
+          (point .columns-below);
     }

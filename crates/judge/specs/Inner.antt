@@ -16,6 +16,11 @@ abbrev pub FewArrays : Checked → Type 0
 FewArrays (Checked.Accepted counts) = counts .arrays ≤ 1024
 FewArrays (Checked.Refused f) = Unit {0}
 
+-- so few arrays, cells and calls that those of two keys add up; every accepted key has no more (`few-records` in
+-- proofs/KeysTogether.antt)
+abbrev pub FewRecords : Counts → Type 0
+FewRecords counts = (counts .arrays ≤ 1024) × (counts .cells ≤ 65537) × (counts .calls ≤ 65537)
+
 -- coordinates for one side of arrays of at most n bits: enough of them, at most 30, no number beyond them, and each number below p
 pub record Coordinates (𝓢 : Scalars) (n : ℕ) (numbers : List ℕ) : Type 0 where
   pub whole : length numbers ≡ 𝓢 .width * length (𝓢 .elements numbers)

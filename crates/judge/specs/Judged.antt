@@ -1,7 +1,7 @@
--- What a call is held to behind check's own rules (01, 'Who can cause a refusal' and 'Order'): 21, 22 and 23 for a point, 24
--- for a place, then 31 for the sheet; 35 for two keys before all of these.
-use Prim.Native.Nat.{ℕ, suc, _*_}
-use mathlib.Core.Bool.{cond, not, _&&_}
+-- What a call is held to behind check's own rules (01, 'Who can cause a refusal' and 'Order'; 02, E7): 21, 22 and 23 for a point, 24
+-- for a place, then 31 for the sheet; and what two keys are judged by together.
+use Prim.Native.Nat.{ℕ, suc, _+_, _*_, max}
+use mathlib.Core.Bool.{cond, not}
 use mathlib.Core.List.{List, [], _∷_, _++_}
 use lib.Dec.{eqb, leb, ltb}
 use lib.ListN.{length}
@@ -37,14 +37,19 @@ unfoldable pub sheetJudged : ℕ → ℕ → Counts → Outcome Counts
 sheetJudged each places counts =
     cond (ltb places (each * counts .arrays)) (refuse Reason.SheetTooShort (each * counts .arrays)) (given counts)
 
--- 35 for two keys of different shape; else the counts of the key with more arrays, to which the sheet is held
-unfoldable pub shapesJudged : Counts → Counts → Outcome Counts
-shapesJudged one other =
-    cond (eqb (one .rows) (other .rows) && eqb (one .columns) (other .columns))
-    (given (cond (ltb (one .arrays) (other .arrays)) other one))
-    (refuse Reason.ShapesDiffer 0)
+-- What two keys of these counts are judged by together: N and N', the larger row bits and column bits, and the arrays of the key that has
+-- more of them. The cells and calls are those of both.
+abbrev pub together : Counts → Counts → Counts
+together one other =
+    record {
+      arrays = max (one .arrays) (other .arrays);
+      cells = one .cells + other .cells;
+      calls = one .calls + other .calls;
+      rows = max (one .rows) (other .rows);
+      columns = max (one .columns) (other .columns);
+    }
 
--- what names neither key: 35, then 21, 22, 23, then 31 for the key with more arrays; an element of the field takes `width` numbers
+-- what names neither key: 21 and 22 by N and N', 23, then 31 for the key with more arrays; an element of the field takes `width` numbers
 abbrev pub pairJudged : ℕ → List ℕ → List ℕ → ℕ → Counts → Counts → Outcome Counts
 pairJudged width rows columns places one other =
-    andThen (andThen (shapesJudged one other) (pointJudged width rows columns)) (sheetJudged (3 * width) places)
+    andThen (pointJudged width rows columns (together one other)) (sheetJudged (3 * width) places)

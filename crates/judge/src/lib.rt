@@ -1,14 +1,14 @@
-// What a call is held to behind check's own rules (01, 'Order'): the point or the place, the sheet, and two keys together.
+// What a call is held to behind check's own rules (01, 'Order'): the point or the place, the sheet, and two keys together (02, E7).
 use field::Fp;
 use key::Checked;
 use key::Counts;
 use refusal::Reason;
 ghost use mathlib.Core.Path.{_≡_};
-ghost use Prim.Native.Nat.{_≤_};
+ghost use Prim.Native.Nat.{_≤_, max};
 ghost use Rattle.refusal.specs.Outcome.{andThen};
 ghost use Rattle.key.specs.Check.{checkedOutcome};
-ghost use Rattle.judge.specs.Inner.{FewArrays};
-ghost use Rattle.judge.specs.Judged.{firstOver, pointJudged, placeJudged, sheetJudged, shapesJudged, pairJudged};
+ghost use Rattle.judge.specs.Inner.{FewArrays, FewRecords};
+ghost use Rattle.judge.specs.Judged.{firstOver, pointJudged, placeJudged, sheetJudged, together, pairJudged};
 
 // The numbers of rows and columns that a point must have, where a coordinate takes `width` numbers, and that each is below p. Inner: a
 // coordinate takes at most two.
@@ -116,8 +116,8 @@ fn first_over(numbers: &[u32]) -> usize
     count
 }
 
-// The shapes of two keys of these counts, a point for them, and a sheet of so many places, where an element of the field takes `width`
-// numbers. Inner: it takes at most two, and neither key has more arrays than a key may have.
+// A point for two keys of these counts together, and a sheet of so many places, where an element of the field takes `width` numbers.
+// Inner: it takes at most two, and the counts are those of keys.
 pub fn pair(
     one: Counts,
     other: Counts,
@@ -126,26 +126,49 @@ pub fn pair(
     columns: &[u32],
     places: usize,
 ) -> Checked
-    requires { ⌜ (width ≤ 2) × (one .arrays ≤ 1024) × (other .arrays ≤ 1024) ⌝ }
+    requires { ⌜ (width ≤ 2) × FewRecords one × FewRecords other ⌝ }
     ensures { λ r. ⌜ checkedOutcome r ≡ pairJudged width (now (rows .entry)) (now (columns .entry)) places one other ⌝ }
 {
-    let shaped = shapes(one, other);
-    let pointed = point(shaped, width, rows, columns);
+    let both = together(one, other);
+    let pointed = point_of(both, width, rows, columns);
     sheet(pointed, 3 * width, places)
 }
 
-// The shapes of two accepted keys: where they are equal, the counts of the key with more arrays.
-fn shapes(one: Counts, other: Counts) -> Checked
-    ensures { λ r. ⌜ checkedOutcome r ≡ shapesJudged one other ⌝ }
+// What two keys of these counts are judged by together. Inner: the counts are those of keys.
+fn together(one: Counts, other: Counts) -> Counts
+    requires { ⌜ FewRecords one × FewRecords other ⌝ }
+    ensures { λ r. ⌜ r ≡ together one other ⌝ }
 {
-    if one.rows != other.rows {
-        return key::refused(Reason::ShapesDiffer, 0);
+    let arrays = more(one.arrays, other.arrays);
+    let cells = one.cells + other.cells;
+    let calls = one.calls + other.calls;
+    let rows = larger(one.rows, other.rows);
+    let columns = larger(one.columns, other.columns);
+    Counts {
+        arrays: arrays,
+        cells: cells,
+        calls: calls,
+        rows: rows,
+        columns: columns,
     }
-    if one.columns != other.columns {
-        return key::refused(Reason::ShapesDiffer, 0);
+}
+
+// The greater of two counts.
+fn more(one: usize, other: usize) -> usize
+    ensures { λ r. ⌜ r ≡ max one other ⌝ }
+{
+    if one < other {
+        return other;
     }
-    if one.arrays < other.arrays {
-        return Checked::Accepted(other);
+    one
+}
+
+// The larger of two numbers of bits.
+fn larger(one: u8, other: u8) -> u8
+    ensures { λ r. ⌜ r ≡ max one other ⌝ }
+{
+    if one < other {
+        return other;
     }
-    Checked::Accepted(one)
+    one
 }

@@ -1,5 +1,6 @@
--- What a reply tells: no other answer has it, and `same` is 1 exactly where compare's answer is "same".
-use Prim.Native.Nat.{ℕ}
+-- What a reply tells: no other answer has it, `same` is 1 exactly where compare's answer is "same", and the factors keep to their limit.
+use Prim.Native.Nat.{ℕ, _≤_}
+use mathlib.Core.List.{List}
 use mathlib.Core.Path.{_≡_, refl, sym, ap, ap₂}
 use native.Mathlib.Omega.{arith}
 use lib.Dec.{eqb}
@@ -14,7 +15,7 @@ use Rattle.evaluate.specs.Answer.{evaluatedOutcome}
 use Rattle.evaluate.specs.declared.Evaluated.{Evaluated}
 use Rattle.evaluate.proofs.Answers.{evaluated-injective}
 use Rattle.comparison.specs.AgreementBound.{isSame}
-use Rattle.comparison.specs.Compare.{Answer, same, different, refusedFor}
+use Rattle.comparison.specs.Compare.{Answer, same, different, refusedFor, BothLimited}
 use Rattle.compare.specs.Answer.{comparedAnswer, comparedFactors}
 use Rattle.compare.specs.declared.Compared.{Compared}
 use Rattle.evaluate_quadratic.specs.Answer.{evaluatedOutcome as quadraticOutcome}
@@ -134,3 +135,18 @@ unfolding isSame
 same-told same factors = refl
 same-told different factors = refl
 same-told (refusedFor which number place) factors = refl
+
+-- the factors that a reply tells are within the limit
+factors-told : (answer : Answer) (factors limit : ℕ) → factors ≤ limit → compareReply answer factors .factors ≤ limit
+factors-told same factors limit l = l
+factors-told different factors limit l = l
+factors-told (refusedFor which number place) factors limit l = omega arith
+
+pub limit-told : (first second : List ℕ) (reply : CompareReply) (answer : Answer) (factors : ℕ) → reply ≡ compareReply answer factors →
+    BothLimited first second factors → BothLimited first second (reply .factors)
+limit-told first second reply answer factors told limited one other accepts accepts' =
+    omega (
+      arith,
+      ap (λ (x : CompareReply). x .factors) told,
+      factors-told answer factors _ (limited one other accepts accepts'),
+    )

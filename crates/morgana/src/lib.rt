@@ -80,7 +80,7 @@ pub struct MoveReply {
 pub extern "C" fn morgana_version() -> u32
     ensures { λ r. ⌜ r ≡ version ⌝ }
 {
-    4000
+    5000
 }
 
 // Whether bytes are an accepted key: its counts, or the first fault with its place.
@@ -151,8 +151,9 @@ pub extern "C" fn morgana_cell(
     reply::of_evaluated(evaluate::cell(key, row, column, sheet))
 }
 
-// Whether two keys of one shape have the same A, B and C at a point. The sheet ends as if the first key and then the second had
-// been evaluated on it, and a refused call leaves it. Demand 3 is `reply` and `agreement` together, as for `compare::compare`.
+// Whether two keys have the same A, B and C at a point, filled with zeros where their shapes differ. The sheet ends as if the first key and
+// then the second had been evaluated on it, each at its own leading coordinates, and a refused call leaves it. Demand 3 is `reply` and
+// `agreement` together, as for `compare::compare`.
 #[no_mangle]
 pub extern "C" fn morgana_compare(
     first: &[u8],
@@ -172,7 +173,7 @@ pub extern "C" fn morgana_compare(
         compared prime (now (first .entry)) (now (second .entry)) (now (rows .entry)) (now (columns .entry)) (now (sheet .entry))
         .sheet ⌝ }
     ensures agreement { λ _. ⌜ Agreement prime (now (first .entry)) (now (second .entry)) ⌝ }
-    ensures limit { λ _. ⌜ BothLimited (now (first .entry)) (now (second .entry)) ⌝ }
+    ensures limit { λ r. ⌜ BothLimited (now (first .entry)) (now (second .entry)) (r .factors) ⌝ }
 {
     reply::of_compared(compare::compare(first, second, rows, columns, sheet))
 }
@@ -198,9 +199,9 @@ pub extern "C" fn morgana_evaluate_quadratic(
     reply::of_quadratic(evaluate_quadratic::evaluate(key, rows, columns, sheet))
 }
 
-// Whether two keys of one shape have the same A, B and C at a point of the field of p² elements. The sheet ends as if the first key and
-// then the second had been evaluated on it, and a refused call leaves it. `reply` and `agreement` together are the agreement bound where q
-// is p².
+// Whether two keys have the same A, B and C at a point of the field of p² elements, filled with zeros where their shapes differ. The sheet
+// ends as if the first key and then the second had been evaluated on it, each at its own leading coordinates, and a refused call leaves it.
+// `reply` and `agreement` together are the agreement bound where q is p².
 #[no_mangle]
 pub extern "C" fn morgana_compare_quadratic(
     first: &[u8],
@@ -220,7 +221,7 @@ pub extern "C" fn morgana_compare_quadratic(
         compared quadratic (now (first .entry)) (now (second .entry)) (now (rows .entry)) (now (columns .entry))
         (now (sheet .entry)) .sheet ⌝ }
     ensures agreement { λ _. ⌜ Agreement quadratic (now (first .entry)) (now (second .entry)) ⌝ }
-    ensures limit { λ _. ⌜ BothLimited (now (first .entry)) (now (second .entry)) ⌝ }
+    ensures limit { λ r. ⌜ BothLimited (now (first .entry)) (now (second .entry)) (r .factors) ⌝ }
 {
     reply::of_compared(compare_quadratic::compare(first, second, rows, columns, sheet))
 }

@@ -1,8 +1,12 @@
--- The multilinear extension of a moved matrix (004, Lemma 1, evaluation), and of any matrix at the bits of a place.
+-- The multilinear extension of a moved matrix (004, Lemma 1, evaluation), of a matrix filled with zeros (02, E7), and of any matrix at the
+-- bits of a place.
 use Prim.Native.Nat.{ℕ, _-_, _*_, _^_, _≤_, _<_}
 use mathlib.Core.List.{List}
+use mathlib.Core.Logic.{_⊎_}
 use mathlib.Core.Path.{_≡_, sym, ap, ap₂, _∙_}
+use native.Mathlib.Omega.{arith}
 use lib.ListN.{length, take, drop}
+use lib.Pow.{pow-pos}
 use lib.Seq.{length-take-le}
 use Rattle.algebra.specs.Arithmetic.{Arithmetic, sumBelow}
 use Rattle.algebra.specs.Field.{Ring}
@@ -12,13 +16,14 @@ use Rattle.multilinear.specs.Matrix.{Matrix, moved}
 use Rattle.multilinear.specs.Weight.{weight, bits}
 use Rattle.multilinear.proofs.Bits.{bits-length, weight-bits-same, weight-bits-other}
 use Rattle.multilinear.proofs.Blocks.{block-fits}
-use Rattle.multilinear.proofs.WeightedSums.{weighted-moved}
+use Rattle.multilinear.proofs.MatrixZeros.{filled-same}
+use Rattle.multilinear.proofs.WeightedSums.{weighted-same, weighted-moved}
 use Rattle.multilinear.proofs.Weights.{weight-split}
 use Rattle.multilinear.proofs.WindowSums.{sums-one}
 
 module _ (𝓐 : Arithmetic) (𝓡 : Ring 𝓐) (m : Matrix 𝓐) where
-  open Arithmetic 𝓐 using (Carrier, unit, mul)
-  open Ring 𝓡 using (Valid, valid-mul, mul-unit)
+  open Arithmetic 𝓐 using (Carrier, nought, unit, mul)
+  open Ring 𝓡 using (Valid, valid-mul, mul-assoc, mul-unit)
 
   -- a matrix of K row bits and K' column bits, moved down by a blocks of 2^K rows and right by a' blocks of 2^K' columns
   pub extension-moved : (K K' a a' : ℕ) (rows columns : List Carrier) → K ≤ length rows → K' ≤ length columns →
@@ -35,6 +40,20 @@ module _ (𝓐 : Arithmetic) (𝓡 : Ring 𝓐) (m : Matrix 𝓐) where
       (mul (weighted 𝓐 m (2 ^ k) (2 ^ k') (λ x. weight 𝓐 x (take K rows)) (λ y. weight 𝓐 y (take K' columns)))
       (weight 𝓐 a (drop K rows))) (weight 𝓐 a' (drop K' columns)))
       (sym (length-take-le K rows fits)) (sym (length-take-le K' columns fits'))
+
+  -- A matrix of K row bits and K' column bits, zero elsewhere: at more coordinates than its own its extension is that at its own, times
+  -- eq([0]) of the others.
+  pub extension-filled : (K K' : ℕ) (rows columns : List Carrier) → K ≤ length rows → K' ≤ length columns →
+      ((x y : ℕ) → (2 ^ K ≤ x) ⊎ (2 ^ K' ≤ y) → m x y ≡ nought) →
+      extension 𝓐 m rows columns
+      ≡ mul (extension 𝓐 m (take K rows) (take K' columns)) (mul (weight 𝓐 0 (drop K rows)) (weight 𝓐 0 (drop K' columns)))
+  extension-filled K K' rows columns fits fits' outside =
+      let first : 0 * 2 ^ K ≡ 0 = omega arith in
+      let first' : 0 * 2 ^ K' ≡ 0 = omega arith in
+      weighted-same 𝓐 𝓡 _ _ _ _ m (moved 𝓐 m (2 ^ K) (2 ^ K') (0 * 2 ^ K) (0 * 2 ^ K'))
+      (λ x y _ _. sym (rw (first, first') (filled-same 𝓐 m (2 ^ K) (2 ^ K') outside x y)))
+      ∙ extension-moved K K' 0 0 rows columns fits fits' (pow-pos (length rows - K)) (pow-pos (length columns - K'))
+      ∙ mul-assoc (extension 𝓐 m (take K rows) (take K' columns)) (weight 𝓐 0 (drop K rows)) (weight 𝓐 0 (drop K' columns))
 
   -- at the bits of row r and column c the extension is the matrix's value there
   pub extension-bits : (k k' r c : ℕ) → r < 2 ^ k → c < 2 ^ k' → Valid (m r c) →

@@ -1,7 +1,10 @@
--- Where a matrix with one value, and where a moved matrix, is zero; and what a moved matrix holds elsewhere.
+-- Where a matrix with one value, and where a moved matrix, is zero; what a moved matrix holds elsewhere; and that a matrix which is zero
+-- outside its shape is itself where it is placed at position 0.
 use Prim.Native.Nat.{ℕ, _+_, _-_, _≤_, _<_}
 use mathlib.Core.Bool.{Bool, true, false, cond, _&&_, and-false}
-use mathlib.Core.Path.{_≡_, ap, ap₂, _∙_}
+use mathlib.Core.Logic.{_⊎_, inl, inr}
+use mathlib.Core.Path.{_≡_, sym, ap, ap₂, _∙_}
+use native.Mathlib.Decide.{decLe}
 use native.Mathlib.Nat.{add-sub-cancel-left}
 use native.Mathlib.Omega.{arith}
 use borrow.Author.Tests.{lt-ltb, le-ltb, le-leb, lt-leb, ne-eqb}
@@ -46,3 +49,16 @@ module _ (𝓐 : Arithmetic) (m : Matrix 𝓐) (n n' s s' : ℕ) where
   unfolding moved
   moved-column-outside x y e =
       ap (λ (b : Bool). cond b (m (x - s) (y - s')) nought) (ap (λ (b : Bool). within s n x && b) e ∙ and-false (within s n x))
+
+-- A matrix that is zero outside n rows and n' columns is filled with zeros: placed at position 0 of a larger one, it is itself.
+pub filled-same : (𝓐 : Arithmetic) (m : Matrix 𝓐) (n n' : ℕ) → ((x y : ℕ) → (n ≤ x) ⊎ (n' ≤ y) → m x y ≡ 𝓐 .nought) →
+    (x y : ℕ) → moved 𝓐 m n n' 0 0 x y ≡ m x y
+filled-same 𝓐 m n n' outside x y = go (decLe n x) (decLe n' y)
+  where
+    go : Dec (n ≤ x) → Dec (n' ≤ y) → moved 𝓐 m n n' 0 0 x y ≡ m x y
+    go (yes l) _ = moved-row-outside 𝓐 m n n' 0 0 x y (within-behind 0 n x (omega arith)) ∙ sym (outside x y (inl l))
+    go (no d) (yes l) = moved-column-outside 𝓐 m n n' 0 0 x y (within-behind 0 n' y (omega arith)) ∙ sym (outside x y (inr l))
+    go (no d) (no d') =
+        let here : 0 + x ≡ x = omega arith in
+        let here' : 0 + y ≡ y = omega arith in
+        sym (ap₂ (moved 𝓐 m n n' 0 0) here here') ∙ moved-inside 𝓐 m n n' 0 0 x y (omega arith) (omega arith)

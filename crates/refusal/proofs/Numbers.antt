@@ -1,4 +1,4 @@
--- No two reasons have one number, and none has 0: one computed test of all reasons.
+-- No two reasons have one number, and none has 0 or 35: computed tests of all reasons.
 use Prim.Native.Nat.{ℕ}
 use mathlib.Core.Bool.{Bool, true, false, cond, not, _&&_, _||_, and-eq-true-iff, false≢true}
 use mathlib.Core.List.{List, [], _∷_}
@@ -77,6 +77,18 @@ pub number-some : (r : Reason) → numberOf r ≡ 0 → ⊥
 number-some r e =
     let nonzero = and-eq-true-iff (not (eqb (numberOf (make (as-values r))) 0)) _ .0 (each-alone r) .0 in
     false≢true (sym (ap not (eq-eqb _ 0 (ap numberOf (eta r) ∙ e))) ∙ nonzero)
+
+-- 35 is the number of no reason: keys of two shapes are not refused (02, E7)
+abbrev other-than-35 : Choice parts → Bool
+other-than-35 c = not (eqb (numberOf (make c)) 35)
+
+none-35-each : each parts other-than-35 ≡ true
+unfolding each numberOf
+none-35-each = refl
+
+pub none-35 : (r : Reason) → numberOf r ≡ 35 → ⊥
+none-35 r e =
+    false≢true (sym (ap not (eq-eqb _ 35 (ap numberOf (eta r) ∙ e))) ∙ each-passes parts other-than-35 none-35-each (as-values r))
 
 -- ---- the reason of a number
 

@@ -1,4 +1,5 @@
--- The numbers of the refusals (01, 'Who can cause a refusal'; 02's new numbers), in the order of 01 and then of 02.
+-- The numbers of the refusals (01, 'Who can cause a refusal'; 02's new numbers), in the order of 01 and then of 02. 35 is not among them:
+-- no two shapes are refused (02, E7).
 use Prim.Native.Nat.{ℕ}
 use Rattle.refusal.specs.declared.Reason.{Reason}
 
@@ -30,9 +31,9 @@ numberOf Reason.PositionTooGreat = 11
 numberOf Reason.LastShapeWrong = 12
 -- bytes after the end
 numberOf Reason.BytesAfterEnd = 13
--- row count not n
+-- row count not n (02, E7: for two keys the larger n)
 numberOf Reason.RowCountWrong = 21
--- column count not n'
+-- column count not n' (02, E7: for two keys the larger n')
 numberOf Reason.ColumnCountWrong = 22
 -- coordinate p or more
 numberOf Reason.CoordinateTooGreat = 23
@@ -46,8 +47,6 @@ numberOf Reason.BufferTooShort = 32
 numberOf Reason.OffsetTooGreat = 33
 -- field operand p or more
 numberOf Reason.OperandTooGreat = 34
--- shapes differ
-numberOf Reason.ShapesDiffer = 35
 -- input shorter than its two counts and their coordinates
 numberOf Reason.InputTooShort = 41
 -- input over 65,536 bytes

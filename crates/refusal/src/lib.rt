@@ -2,7 +2,8 @@
 ghost use mathlib.Core.Path.{_≡_};
 ghost use Rattle.refusal.specs.Number.{numberOf};
 
-// The condition under which a call is refused: one for each number of 01's list, in its order, and then those of 02.
+// The condition under which a call is refused: one for each number of 01's list, in its order, but for 35, which no call gives (02, E7),
+// and then those of 02.
 pub enum Reason {
     // Faults of the key.
     KeyTooLong,
@@ -28,7 +29,6 @@ pub enum Reason {
     BufferTooShort,
     OffsetTooGreat,
     OperandTooGreat,
-    ShapesDiffer,
     // Faults of keysheet's input.
     InputTooShort,
     InputTooLong,
@@ -78,7 +78,6 @@ impl Reason {
             Reason::BufferTooShort => 32,
             Reason::OffsetTooGreat => 33,
             Reason::OperandTooGreat => 34,
-            Reason::ShapesDiffer => 35,
             Reason::InputTooShort => 41,
             Reason::InputTooLong => 42,
             Reason::FactorNotOne => 55,

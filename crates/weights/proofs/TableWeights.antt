@@ -5,8 +5,8 @@ use mathlib.Core.List.{List}
 use mathlib.Core.Path.{_≡_, refl, sym, ap, ap₂, _∙_}
 use native.Mathlib.Omega.{arith}
 use lib.Dec.{eqb}
-use lib.ListN.{length, getD, take}
-use lib.Seq.{slice, slice-cons}
+use lib.ListN.{length, getD, take, drop, length-drop}
+use lib.Seq.{slice, slice-cons, getD-drop}
 use Rattle.algebra.specs.Arithmetic.{Arithmetic}
 use Rattle.multilinear.specs.Eq.{eq, bitwise}
 use Rattle.multilinear.specs.Weight.{weight, bits}
@@ -15,22 +15,26 @@ use Rattle.multilinear.proofs.EqAtBits.{eq-factor-bit}
 use Rattle.weights.specs.Words.{Words, LawfulWords}
 use Rattle.weights.specs.Side.{pairs, Tabled}
 
-module _ (𝓦 : Words) (𝓛 : LawfulWords 𝓦) (n : ℕ) (coordinates : List (𝓦 .scalars .arithmetic .Carrier)) (table : List ℕ)
-    (enough : n ≤ length coordinates) where
+module _ (𝓦 : Words) (𝓛 : LawfulWords 𝓦) (coordinates : List (𝓦 .scalars .arithmetic .Carrier)) (table : List ℕ)
+    (valid : (i : ℕ) → i < length coordinates → 𝓛 .lawful .field .ring .Valid (getD coordinates i (𝓦 .scalars .arithmetic .nought)))
+    (tabled : Tabled 𝓦 coordinates table) where
   open Arithmetic (𝓦 .scalars .arithmetic) using (nought, unit, sub)
 
-  pub weighs-as : ((i : ℕ) → i < length coordinates → 𝓛 .lawful .field .ring .Valid (getD coordinates i nought)) → Tabled 𝓦 coordinates table →
-      (k x : ℕ) → k ≤ n → bitwise (𝓦 .scalars .arithmetic) (pairs 𝓦 table) k 0 x ≡ weight (𝓦 .scalars .arithmetic) x (take k coordinates)
-  weighs-as valid tabled k x l =
-      bitwise-weight (𝓦 .scalars .arithmetic) (pairs 𝓦 table) nought k 0 x coordinates (omega arith) (λ i bit m b. factor i bit (omega arith) b)
-    where
-      factor : (i bit : ℕ) → i < length coordinates → bit < 2 →
-          pairs 𝓦 table (0 + i) bit ≡ cond (eqb bit 1) (getD coordinates i nought) (sub unit (getD coordinates i nought))
-      factor i bit m b =
-          let here : 0 + i ≡ i = omega arith in
-          ap (λ (j : ℕ). pairs 𝓦 table j bit) here
-          ∙ tabled .factors-of i bit m b
-          ∙ eq-factor-bit (𝓦 .scalars .arithmetic) (𝓛 .lawful .field .ring) (eqb bit 1) (getD coordinates i nought) (valid i m)
+  factor : (i bit : ℕ) → i < length coordinates → bit < 2 →
+      pairs 𝓦 table i bit ≡ cond (eqb bit 1) (getD coordinates i nought) (sub unit (getD coordinates i nought))
+  factor i bit l b =
+      tabled .factors-of i bit l b
+      ∙ eq-factor-bit (𝓦 .scalars .arithmetic) (𝓛 .lawful .field .ring) (eqb bit 1) (getD coordinates i nought) (valid i l)
+
+  -- over the bits from one on, so many
+  pub weighs-from : (from k x : ℕ) → from + k ≤ length coordinates →
+      bitwise (𝓦 .scalars .arithmetic) (pairs 𝓦 table) k from x ≡ weight (𝓦 .scalars .arithmetic) x (take k (drop from coordinates))
+  weighs-from from k x l =
+      bitwise-weight (𝓦 .scalars .arithmetic) (pairs 𝓦 table) nought k from x (drop from coordinates)
+      (omega (arith, length-drop from coordinates))
+      (λ i bit m b.
+      factor (from + i) bit (omega arith) b
+      ∙ ap (λ (r : 𝓦 .scalars .arithmetic .Carrier). cond (eqb bit 1) r (sub unit r)) (sym (getD-drop from coordinates i nought)))
 
 -- over any bits that follow one another the weight is eq of the number's bits and the coordinates there
 module _ (𝓦 : Words) (coordinates : List (𝓦 .scalars .arithmetic .Carrier)) (table : List ℕ) (tabled : Tabled 𝓦 coordinates table) where

@@ -1,5 +1,5 @@
-//! Compares two key files at as many random points over p² as make it unlikely
-//! that keys that differ pass:
+//! Compares two key files, of any shapes, at as many random points over p² as
+//! make it unlikely that keys that differ pass:
 //!
 //!     cargo run --release -- OLD NEW
 //!
@@ -45,9 +45,9 @@ fn compare(old: &OsString, new: &OsString) -> Result<Option<Likelihood>, Box<dyn
     // Both keys are at hand before a point is drawn: the bound speaks of such
     // points alone.
     let (old, new) = (read(old)?, read(new)?);
-    let (row_bits, column_bits) = match morgana::check(&old) {
-        Ok(counts) => (counts.rows, counts.columns),
-        Err(_) => (0, 0), // compare refuses the key and says why
+    let (row_bits, column_bits) = match (morgana::check(&old), morgana::check(&new)) {
+        (Ok(one), Ok(other)) => one.larger_shape(other),
+        _ => (0, 0), // compare refuses a key and says why
     };
     let field = Field::Quadratic;
     let count = Likelihood::points(field, row_bits + column_bits);

@@ -5,9 +5,10 @@ use crate::archive::{self, Served};
 use crate::cases::{compare_outcome, outcome, values_outcome, Case};
 use crate::generator::inputs::Point;
 use crate::generator::random::Random;
-use crate::independent::calls::{self, places};
+use crate::independent::calls::{self, places, unused};
 use crate::independent::field::Field;
-use crate::independent::Compared;
+use crate::independent::key::read;
+use crate::independent::{Compared, Counts};
 use crate::lent::{lend_bytes, lend_numbers};
 
 /// One case of check, by the safe call and by the raw one.
@@ -35,7 +36,9 @@ pub fn evaluate_case<F: Served>(
     let answer = calls::evaluate::<F>(key, rows, columns, &mut wanted);
     let input = format!("rows {rows:?} columns {columns:?} sheet {sheet:?}");
     let mut case = Case::new(&[key], input, values_outcome(&answer));
-    hold_limit(&mut case, &[key], answer.map(|answer| answer.factors));
+    hold_limit(&mut case, answer.map(|answer| answer.factors), || {
+        counts(key).limit()
+    });
     let key = lend_bytes(random, key);
     let rows = lend_numbers(random, rows);
     let columns = lend_numbers(random, columns);
@@ -68,7 +71,9 @@ pub fn cell_case(random: &mut Random, key: &[u8], row: u32, column: u32, sheet: 
     let answer = calls::cell(key, row, column, &mut wanted);
     let input = format!("row {row} column {column} sheet {sheet:?}");
     let mut case = Case::new(&[key], input, values_outcome(&answer));
-    hold_limit(&mut case, &[key], answer.map(|answer| answer.factors));
+    hold_limit(&mut case, answer.map(|answer| answer.factors), || {
+        counts(key).limit()
+    });
     let key = lend_bytes(random, key);
     let mut sheet = lend_numbers(random, sheet);
 
@@ -96,14 +101,16 @@ pub fn compare_case<F: Served>(
     let answer = calls::compare::<F>(first, second, rows, columns, &mut wanted);
     let input = format!("rows {rows:?} columns {columns:?} sheet {sheet:?}");
     let same = matches!(answer, Ok(Compared { same: true, .. }));
-    let outcome = if same && is_zero_at_last::<F>(second, &wanted) {
+    let outcome = if same && is_zero::<F>(second, rows, columns, &wanted) {
         String::from("same at zero")
     } else {
         compare_outcome(&answer)
     };
     let mut case = Case::new(&[first, second], input, outcome);
     let factors = answer.map(|answer| answer.factors);
-    hold_limit(&mut case, &[first, second], factors);
+    hold_limit(&mut case, factors, || {
+        counts(first).limit_with(&counts(second))
+    });
     let first = lend_bytes(random, first);
     let second = lend_bytes(random, second);
     let rows = lend_numbers(random, rows);
@@ -133,18 +140,24 @@ pub fn compare_case<F: Served>(
     case
 }
 
-/// Notes a fault where the count of factors that is wanted of these keys, unless they are refused, passes their limits.
-fn hold_limit<R>(case: &mut Case, keys: &[&[u8]], factors: Result<u64, R>) {
+/// The counts of an accepted key.
+fn counts(key: &[u8]) -> Counts {
+    calls::check(key).expect("the key is accepted")
+}
+
+/// Notes a fault where the count of factors that is wanted, unless the call is refused, passes its limit.
+fn hold_limit<R>(case: &mut Case, factors: Result<u64, R>, limit: impl Fn() -> u64) {
     if let Ok(factors) = factors {
-        let counts = |key: &&[u8]| calls::check(key).expect("the key is accepted");
-        let limit: u64 = keys.iter().map(|key| counts(key).limit()).sum();
-        case.hold("factors within the limit", factors <= limit, true);
+        case.hold("factors within the limit", factors <= limit(), true);
     }
 }
 
-/// Whether the last array's values of an accepted key are zero on a sheet on which it was evaluated last.
-fn is_zero_at_last<F: Field>(key: &[u8], sheet: &[u32]) -> bool {
-    let arrays = calls::check(key).expect("the key is accepted").arrays as usize;
+/// Whether what compare takes of an accepted key at a point is zero, on a sheet on which the key was evaluated last: the
+/// last array's values, or the weight of a coordinate that the key does not use.
+fn is_zero<F: Field>(key: &[u8], rows: &[u32], columns: &[u32], sheet: &[u32]) -> bool {
+    let key = read(key).expect("the key is accepted");
+    let arrays = key.arrays.len();
     let last = &sheet[places::<F>(arrays - 1)..places::<F>(arrays)];
-    last.iter().all(|&number| number == 0)
+    let unused = unused(&key, rows, columns).concat();
+    last.iter().all(|&number| number == 0) || unused.contains(&F::of_value(1))
 }

@@ -77,7 +77,7 @@ fn sheet_of_compare() {
     assert_eq!(sheet, [11; 8]);
 }
 
-/// Compare's refusals: the first key, the second, 35, 21, 22, 23, 31.
+/// Compare's refusals: the first key, the second, 21, 22, 23, 31.
 #[test]
 fn refusals_of_compare() {
     let wide = key(1, 2, &[Sparse(1, 2)]);
@@ -101,23 +101,15 @@ fn refusals_of_compare() {
     held(&wide, &bad, &[], &[], of(2, 5, 0));
     held(&wide, &[], &[], &[], of(2, 2, 0));
     held(&[], &[], &[], &[], of(1, 2, 0));
-    held(&wide, &tall, &[P], &[P], of(0, 35, 0));
-    held(&tall, &wide, &[P], &[P], of(0, 35, 0));
+    held(&wide, &tall, &[P], &[P], of(0, 21, 1));
+    held(&tall, &wide, &[P, P], &[P], of(0, 22, 1));
     let wider = key(1, 3, &[Sparse(1, 3)]);
-    held(&wide, &wider, &[P], &[P, P], of(0, 35, 0));
+    held(&wide, &wider, &[P], &[P, P], of(0, 22, 2));
     let taller = key(2, 2, &[Sparse(2, 2)]);
-    held(&wide, &taller, &[P], &[P, P], of(0, 35, 0));
+    held(&wide, &taller, &[P], &[P, P], of(0, 21, 1));
     held(&wide, &wide, &[P, P], &[P], of(0, 21, 2));
     held(&wide, &wide, &[P], &[P], of(0, 22, 1));
     held(&wide, &wide, &[P], &[P, P], of(0, 23, 0));
     held(&wide, &wide, &[P - 1], &[0, P], of(0, 23, 2));
     held(&wide, &wide, &[P - 1], &[0, P - 1], of(0, 31, 3));
-}
-
-/// A refusal of compare that names neither key.
-fn neither<T>(number: u32, place: u64) -> Result<T, CompareRefusal> {
-    Err(CompareRefusal {
-        key: 0,
-        refusal: Refusal { number, place },
-    })
 }

@@ -218,9 +218,9 @@ fn refused_calls() {
         let reply = archive::raw_cell(key, row, 0, &mut sheet[..length]);
         assert_eq!((reply.number, reply.factors), (number, 0));
     }
-    let reply = archive::raw_compare(good, &other, &[3], &[4], sheet);
-    assert_eq!((reply.number, reply.factors), (35, 0));
-    let reply = archive::raw_compare_quadratic(good, &other, &[3, 0], &[4, 0], sheet);
-    assert_eq!((reply.number, reply.factors), (35, 0));
+    let reply = archive::raw_compare(good, &other, &[3], &[], sheet);
+    assert_eq!((reply.number, reply.factors), (22, 0));
+    let reply = archive::raw_compare_quadratic(good, &other, &[3, 0], &[], sheet);
+    assert_eq!((reply.number, reply.factors), (22, 0));
     assert_eq!(sheet, &[9; 12]);
 }

@@ -117,7 +117,7 @@ fn pushed_body(random: &mut Random, record: Record, shapes: &[[u8; 2]]) -> Recor
 fn pushed_call(random: &mut Random, mut call: Call, shapes: &[[u8; 2]]) -> Call {
     let own = shapes.len() - 1;
     if random.chance(2) {
-        call.id = pushed_id(random, own);
+        call.id = pushed_id(random, shapes);
     }
     if let Some(&[rows, columns]) = shapes.get(usize::from(call.id)) {
         let mut fields = [&mut call.row, &mut call.column];
@@ -134,8 +134,15 @@ fn pushed_call(random: &mut Random, mut call: Call, shapes: &[[u8; 2]]) -> Call 
     call
 }
 
-/// An id near the number of the calling array, or any earlier one.
-fn pushed_id(random: &mut Random, own: usize) -> u16 {
+/// An id near the number of the calling array, which is the last of these, or any earlier one, often a larger one where
+/// there is any.
+fn pushed_id(random: &mut Random, shapes: &[[u8; 2]]) -> u16 {
+    let own = shapes.len() - 1;
+    let is_larger = |id: &usize| (0..2).any(|axis| shapes[*id][axis] > shapes[own][axis]);
+    let larger: Vec<usize> = (0..own).filter(is_larger).collect();
+    if !larger.is_empty() && random.chance(2) {
+        return random.pick(&larger) as u16;
+    }
     let id = match random.below(6) {
         0 => own,
         1 => own + 1,

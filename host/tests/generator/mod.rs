@@ -6,6 +6,7 @@
 pub mod counted;
 pub mod damage;
 pub mod editions;
+pub mod grown;
 pub mod inputs;
 pub mod keys;
 pub mod limits;

@@ -63,7 +63,10 @@ pub fn reworded(random: &mut Random, records: &[Record]) -> Vec<Record> {
             1 => split_a_cell(random, &mut new),
             2 => insert_an_array(random, &mut new),
             3 => split_a_call(random, &mut new),
-            4 => call_the_last(&mut new),
+            4 => {
+                let (rows, columns) = shape(&new);
+                call_the_last(&mut new, [rows as u8, columns as u8], 0, 0);
+            }
             _ => new = in_other_edition(&new).unwrap_or(new),
         }
     }
@@ -125,24 +128,16 @@ fn insert_an_array(random: &mut Random, records: &mut Vec<Record>) {
     }
 }
 
-/// Puts a last array behind the last that calls it alone.
-fn call_the_last(records: &mut Vec<Record>) {
-    let (rows, columns) = shape(records);
-    let call = Call {
-        id: (arrays(records) - 1) as u16,
-        row: 0,
-        column: 0,
-    };
+/// Puts a last array of these bits behind the last that calls it alone, at a position.
+pub fn call_the_last(records: &mut Vec<Record>, bits: [u8; 2], row: u32, column: u32) {
+    let id = (arrays(records) - 1) as u16;
+    let call = Call { id, row, column };
     let call = match edition_of(records) {
         Edition::One => Record::Call(call),
         Edition::Two => Record::ScaledCall(call, 1),
     };
     records.pop();
-    records.extend([
-        Record::Recursive(rows as u8, columns as u8),
-        call,
-        Record::End,
-    ]);
+    records.extend([Record::Recursive(bits[0], bits[1]), call, Record::End]);
 }
 
 /// A key of which one value, call or factor that the last array depends on is another than before; or else

@@ -1,14 +1,16 @@
 //! Check, evaluate, cell and compare, with the sheet, on top of the unrolled matrices.
 
 use super::dense::{extension, extension_of_places, unroll, unroll_places, Places};
-use super::field::{bits, elements, Field, Fp, P};
-use super::key::{counts, factors, read, Body, Key};
+use super::field::{bits, elements, eq, Field, Fp, P};
+use super::key::{counts, factors, factors_of_both, read, Body, Key};
 use super::pass::factors::Factors;
 use super::pass::{self, Lazy, Weights};
 use super::{refuse, CompareRefusal, Compared, Counts, Evaluated, Refusal};
 
 /// The greatest number of additions for which a key is unrolled into whole matrices.
 const MOST_ADDITIONS: usize = 60_000;
+/// The greatest number of row and column bits together of a matrix that is made whole.
+const MOST_MATRIX_BITS: u32 = 12;
 /// The greatest number of cells of one array for which a key is unrolled into places.
 const MOST_PLACES: usize = 1_500;
 
@@ -74,11 +76,11 @@ pub fn places<F: Field>(arrays: usize) -> usize {
     3 * F::NUMBERS * arrays
 }
 
-/// How many places and additions the whole matrices take; none where one has over 2^12 places.
+/// How many places and additions the whole matrices take; none where one has too many bits.
 fn additions(key: &Key) -> Option<usize> {
     let mut total = 0;
     for array in &key.arrays {
-        if array.row_bits + array.column_bits > 12 {
+        if array.row_bits + array.column_bits > MOST_MATRIX_BITS {
             return None;
         }
         total += 1 << (array.row_bits + array.column_bits);
@@ -101,7 +103,7 @@ pub fn evaluate<F: Lazy>(
     sheet: &mut [u32],
 ) -> Result<Evaluated<F>, Refusal> {
     let key = read(bytes)?;
-    judge_point::<F>(&key, rows, columns)?;
+    judge_point::<F>([key.rows, key.columns], rows, columns)?;
     judge_sheet::<F>(key.arrays.len(), sheet)?;
     Ok(Evaluated {
         values: write(&values(bytes, &key, rows, columns), sheet),
@@ -144,8 +146,9 @@ fn dense_values(key: &Key, row: u32, column: u32) -> Option<[u32; 3]> {
     Some(places.get(&(row, column)).copied().unwrap_or_default())
 }
 
-/// Compare: the first key, the second key, 35, 21, 22, 23, 31 for the key with more arrays;
-/// whether all three values agree, and the sheet as after evaluating the first and the second.
+/// Compare: the first key, the second key, 21, 22, 23, 31 for the key with more arrays; whether all
+/// three values of both keys' matrices, filled with zeros, agree, and the sheet as after evaluating
+/// the first and the second at their own coordinates.
 pub fn compare<F: Lazy>(
     first: &[u8],
     second: &[u8],
@@ -156,26 +159,65 @@ pub fn compare<F: Lazy>(
     let of = |key| move |refusal| CompareRefusal { key, refusal };
     let one = read(first).map_err(of(1))?;
     let other = read(second).map_err(of(2))?;
-    if (one.rows, one.columns) != (other.rows, other.columns) {
-        return refuse(35, 0).map_err(of(0));
-    }
-    judge_point::<F>(&one, rows, columns).map_err(of(0))?;
+    let shape = counts(&one).larger(&counts(&other));
+    judge_point::<F>(shape, rows, columns).map_err(of(0))?;
     let arrays = one.arrays.len().max(other.arrays.len());
     judge_sheet::<F>(arrays, sheet).map_err(of(0))?;
-    let of_first: [F; 3] = write(&values(first, &one, rows, columns), sheet);
-    let of_second = write(&values(second, &other, rows, columns), sheet);
+    let of_both: [[F; 3]; 2] = [(first, &one), (second, &other)].map(|(bytes, key)| {
+        let [own_rows, own_columns] = own::<F>(key, rows, columns);
+        let answer = write(&values(bytes, key, own_rows, own_columns), sheet);
+        filled_values(key, shape, rows, columns).unwrap_or_else(|| {
+            let [rows, columns] = unused(key, rows, columns).map(|side| eq(0, &side));
+            answer.map(|value: F| value.times(rows).times(columns))
+        })
+    });
     Ok(Compared {
-        same: of_first == of_second,
-        factors: factors(&one) + factors(&other),
+        same: of_both[0] == of_both[1],
+        factors: factors_of_both(&one, &other),
     })
 }
 
-/// Refusals 21, 22 and 23, which count numbers.
-fn judge_point<F: Field>(key: &Key, rows: &[u32], columns: &[u32]) -> Result<(), Refusal> {
-    if rows.len() != F::NUMBERS * key.rows as usize {
+/// The part of a point that a key is evaluated at: the first n row and the first n' column coordinates.
+pub fn own<'a, F: Field>(key: &Key, rows: &'a [u32], columns: &'a [u32]) -> [&'a [u32]; 2] {
+    [(rows, key.rows), (columns, key.columns)]
+        .map(|(numbers, bits)| &numbers[..F::NUMBERS * bits as usize])
+}
+
+/// The row coordinates and the column coordinates of a point that a key does not use.
+pub fn unused<F: Field>(key: &Key, rows: &[u32], columns: &[u32]) -> [Vec<F>; 2] {
+    let [own_rows, own_columns] = own::<F>(key, rows, columns);
+    [&rows[own_rows.len()..], &columns[own_columns.len()..]].map(elements)
+}
+
+/// The extension, at a point of N row and N' column coordinates, of the last array's matrices filled
+/// with zeros to 2^N rows and 2^N' columns, where the key is small enough to unroll: the sum over all
+/// rows and columns, or over the places that hold something.
+pub fn filled_values<F: Field>(
+    key: &Key,
+    shape: [u32; 2],
+    rows: &[u32],
+    columns: &[u32],
+) -> Option<[F; 3]> {
+    let (rows, columns) = (elements(rows), elements(columns));
+    let small = additions(key).is_some_and(|additions| additions <= MOST_ADDITIONS);
+    if small && shape[0] + shape[1] <= MOST_MATRIX_BITS {
+        let last = unroll(key).pop()?;
+        return Some(extension(&last.filled(shape), &rows, &columns));
+    }
+    let places = unroll_places(key, MOST_PLACES)?.pop()?;
+    Some(extension_of_places(&places, &rows, &columns))
+}
+
+/// Refusals 21, 22 and 23, which count numbers, for these row and column bits.
+fn judge_point<F: Field>(
+    [row_bits, column_bits]: [u32; 2],
+    rows: &[u32],
+    columns: &[u32],
+) -> Result<(), Refusal> {
+    if rows.len() != F::NUMBERS * row_bits as usize {
         return refuse(21, rows.len());
     }
-    if columns.len() != F::NUMBERS * key.columns as usize {
+    if columns.len() != F::NUMBERS * column_bits as usize {
         return refuse(22, columns.len());
     }
     let mut numbers = rows.iter().chain(columns);

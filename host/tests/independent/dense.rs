@@ -22,6 +22,22 @@ impl Matrix {
         self.places[self.index(row, column)]
     }
 
+    /// The matrix of so many bits that has this one at its first rows and columns, and zeros elsewhere.
+    pub fn filled(&self, [row_bits, column_bits]: [u32; 2]) -> Matrix {
+        let mut filled = Matrix {
+            row_bits,
+            column_bits,
+            places: vec![[0; 3]; 1 << (row_bits + column_bits)],
+        };
+        for row in 0..1 << self.row_bits {
+            for column in 0..1 << self.column_bits {
+                let index = filled.index(row, column);
+                filled.places[index] = self.at(row, column);
+            }
+        }
+        filled
+    }
+
     /// Where the values of a row and a column stand in the list.
     fn index(&self, row: u32, column: u32) -> usize {
         ((row as usize) << self.column_bits) + column as usize

@@ -124,6 +124,11 @@ pub fn elements<F: Field>(numbers: &[u32]) -> Vec<F> {
         .collect()
 }
 
+/// The numbers over p² of coordinates over p: each is a u, with v zero behind it.
+pub fn with_zeros(coordinates: &[u32]) -> Vec<u32> {
+    coordinates.iter().flat_map(|&u| [u, 0]).collect()
+}
+
 /// eq([number]; coordinates): coordinate i where bit i is 1, and 1 less it where the bit is 0.
 pub fn eq<F: Field>(number: u32, coordinates: &[F]) -> F {
     let one = F::of_value(1);

@@ -191,6 +191,14 @@ pub fn factors(key: &Key) -> u64 {
     key.arrays.iter().map(|array| factors_of(array, key)).sum()
 }
 
+/// The count of factors of two keys that are compared: both keys' counts, and for each key one for each coordinate that it
+/// does not use.
+pub fn factors_of_both(one: &Key, other: &Key) -> u64 {
+    let [rows, columns] = counts(one).larger(&counts(other));
+    let unused = |key: &Key| u64::from(rows - key.rows + columns - key.columns);
+    factors(one) + unused(one) + factors(other) + unused(other)
+}
+
 /// The count of factors of one array.
 fn factors_of(array: &Array, key: &Key) -> u64 {
     let bits = |array: &Array| u64::from(array.row_bits + array.column_bits);

@@ -49,6 +49,18 @@ impl Counts {
     pub fn limit(&self) -> u64 {
         u64::from(self.rows + self.columns) * u64::from(self.cells + self.calls)
     }
+
+    /// N and N' of two keys that are compared: the larger row bits and the larger column bits.
+    pub fn larger(&self, other: &Counts) -> [u32; 2] {
+        [self.rows.max(other.rows), self.columns.max(other.columns)]
+    }
+
+    /// The limit of the count of factors of two keys that are compared: (N + N')·(cells + calls of both) + 2·(N + N').
+    pub fn limit_with(&self, other: &Counts) -> u64 {
+        let m = u64::from(self.larger(other).iter().sum::<u32>());
+        let of_both = self.cells + self.calls + other.cells + other.calls;
+        m * u64::from(of_both) + 2 * m
+    }
 }
 
 /// What evaluate and cell answer: the last array's values, and the key's count of factors.
@@ -58,7 +70,7 @@ pub struct Evaluated<F> {
     pub factors: u64,
 }
 
-/// What compare answers: whether all three values agree, and the sum of both keys' counts of factors.
+/// What compare answers: whether all three values agree, and the count of factors of both keys.
 #[derive(Debug, Clone, Copy, PartialEq, Eq)]
 pub struct Compared {
     pub same: bool,

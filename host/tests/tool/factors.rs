@@ -119,6 +119,26 @@ fn only_points_that_were_tried_count() {
 }
 
 #[test]
+fn unused_coordinates_count() {
+    let folder = folder("unused");
+    folder.write("points", b"rows 1\ncolumns 5\nrows 1\ncolumns 6\n");
+    for (old, new, each) in [("single", "flat", 2 + 2), ("other", "single", 2 + 2)] {
+        // At row coordinate 1 flat and other are zero, and so is the weight of the one that single does not use.
+        let run = |options: &[&str]| {
+            let keys = ["compare", old, new, "--point=points"];
+            folder.run(&[&keys[..], options].concat())
+        };
+        let total = (2 * each).to_string();
+        assert_eq!(factors(&run(&[])), Some(total.as_str()));
+        assert_eq!(factors(&run(&["--quiet"])), Some(total.as_str()));
+        assert_eq!(counts(&run(&["--json"])), [Some(total.as_str())]);
+    }
+    let ran = folder.run(&["compare", "single", "wide", "--points=7", "--quiet"]);
+    // They are different at the first point, where single does not use 60 coordinates.
+    assert_eq!((ran.status, factors(&ran)), (Some(1), Some("120")));
+}
+
+#[test]
 fn all_pairs_are_added_up() {
     let folder = folder("all-pairs");
     folder.write(
@@ -139,7 +159,7 @@ fn all_pairs_are_added_up() {
 fn nothing_is_counted_where_nothing_is_evaluated() {
     let folder = folder("uncounted");
     folder.write("short", b"rows\ncolumns 1\n");
-    folder.write("list", b"flat flat\nbad flat\nflat single\nflat absent\n");
+    folder.write("list", b"flat flat\nbad flat\nflat absent\n");
     for (arguments, status) in [
         (&["check", "sample"][..], 0),
         (&["check", "sample", "flat"], 0),
@@ -152,7 +172,7 @@ fn nothing_is_counted_where_nothing_is_evaluated() {
         (&["compare", "sample", "sample"], 0),
         (&["compare", "sample", "sample", "--quiet"], 0),
         (&["compare", "sample", "bad"], 2),
-        (&["compare", "sample", "single"], 2),
+        (&["compare", "sample", "single", "--point=short"], 2),
         (&["compare", "sample", "flat", "--point=short"], 2),
         (&["compare", "--pairs=list"], 3),
     ] {

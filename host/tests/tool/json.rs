@@ -131,7 +131,7 @@ fn evaluate_has_an_object_for_each_point() {
     folder.run(&["evaluate", "sample", "--json", "--point=point"]).answers(
         2,
         "{\"command\":\"evaluate\",\"file\":\"sample\",\"status\":\"refused\",\"number\":21,\"place\":2,\
-         \"reason\":\"row count not n, or not 2n over p²\",\"detail\":\"2 given, 1 wanted (2 with --quadratic)\",\
+         \"reason\":\"row count not n (N for two keys, twice that over p²)\",\"detail\":\"2 given, 1 wanted (2 with --quadratic)\",\
          \"points_from\":\"point\",\"point\":1}\n",
     );
 }
@@ -254,11 +254,11 @@ fn compare_has_an_object_for_each_pair() {
         (
             "single",
             "sample",
-            &[],
-            2,
-            "\"refused\",\"number\":35,\"place\":0,\"reason\":\"shapes differ\",\
-             \"detail\":\"old key \\\"single\\\" has row bits 0 and column bits 0, \
-             new key \\\"sample\\\" row bits 1 and column bits 1\"}",
+            &["--quiet"],
+            1,
+            "\"different\",\"certain\":true,\"point\":1,\"field\":\"p\",\"m\":2,\
+             \"old_row_bits\":0,\"old_column_bits\":0,\"new_row_bits\":1,\"new_column_bits\":1,\
+             \"count\":3,\"factors\":5}",
         ),
     ] {
         let wanted = start(old, new) + wanted + "\n";

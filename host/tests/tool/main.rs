@@ -11,5 +11,6 @@ mod moves;
 mod outputs;
 mod refusals;
 mod replays;
+mod shapes;
 mod support;
 mod values;

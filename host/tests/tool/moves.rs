@@ -395,5 +395,6 @@ fn keys_of_both_editions_are_compared() {
         }
     }
     let ran = folder.run(&["compare", "two", "single"]);
-    assert!(ran.out.starts_with("refused 35 at 0: "), "{}", ran.out);
+    let wanted = "different\nold has 1 row bit and 1 column bit, new 0 and 0: ";
+    assert!(ran.out.starts_with(wanted), "{}", ran.out);
 }

@@ -1,8 +1,6 @@
 //! Refusals: what is known of each stands on its line.
 
-use crate::keys::{
-    call, cell, head, recursive, sample, scaled_call, scaled_head, single, sparse, END,
-};
+use crate::keys::{call, cell, head, recursive, sample, scaled_call, scaled_head, sparse, END};
 use crate::support::Folder;
 
 /// A key that is refused, with its line up to the file's name.
@@ -274,30 +272,6 @@ fn each_number_of_a_key_is_among_them() {
 }
 
 #[test]
-fn keys_of_two_shapes_are_told_with_both() {
-    let folder = Folder::new("shapes", &[("sample", &sample()), ("single", &single(1))]);
-    for (old, new, wanted) in [
-        (
-            "sample",
-            "single",
-            "refused 35 at 0: shapes differ; old key \"sample\" has row bits 1 and column bits 1, \
-             new key \"single\" row bits 0 and column bits 0\n",
-        ),
-        (
-            "single",
-            "sample",
-            "refused 35 at 0: shapes differ; old key \"single\" has row bits 0 and column bits 0, \
-             new key \"sample\" row bits 1 and column bits 1\n",
-        ),
-    ] {
-        for option in [&[][..], &["--quadratic"]] {
-            let arguments = [&["compare", old, new], option].concat();
-            folder.run(&arguments).answers(2, wanted);
-        }
-    }
-}
-
-#[test]
 fn a_refused_point_is_told_with_what_is_wanted() {
     let folder = Folder::new(
         "points",
@@ -307,12 +281,12 @@ fn a_refused_point_is_told_with_what_is_wanted() {
         (
             "rows\ncolumns 1 2\n",
             &[][..],
-            "refused 21 at 0: row count not n, or not 2n over p²; 0 given, 1 wanted",
+            "refused 21 at 0: row count not n (N for two keys, twice that over p²); 0 given, 1 wanted",
         ),
         (
             "rows 1\ncolumns 1 2\n",
             &[],
-            "refused 22 at 2: column count not n', or not 2n' over p²; 2 given, 1 wanted (2 with --quadratic)",
+            "refused 22 at 2: column count not n' (N' for two keys, twice that over p²); 2 given, 1 wanted (2 with --quadratic)",
         ),
         (
             "rows 2147483647\ncolumns 2147483647\n",
@@ -327,12 +301,12 @@ fn a_refused_point_is_told_with_what_is_wanted() {
         (
             "rows 1\ncolumns 1 2\n",
             &["--quadratic"],
-            "refused 21 at 1: row count not n, or not 2n over p²; 1 given, 2 wanted (1 without --quadratic)",
+            "refused 21 at 1: row count not n (N for two keys, twice that over p²); 1 given, 2 wanted (1 without --quadratic)",
         ),
         (
             "rows 1 2\ncolumns 1 2 3 4\n",
             &["--quadratic"],
-            "refused 22 at 4: column count not n', or not 2n' over p²; 4 given, 2 wanted",
+            "refused 22 at 4: column count not n' (N' for two keys, twice that over p²); 4 given, 2 wanted",
         ),
         (
             "rows 2147483647 2\ncolumns 3 4\n",
@@ -365,17 +339,17 @@ fn rows_and_columns_have_their_own_count() {
         (
             "rows 1\ncolumns 1\n",
             &[][..],
-            "21 at 1: row count not n, or not 2n over p²; 1 given, 2 wanted",
+            "21 at 1: row count not n (N for two keys, twice that over p²); 1 given, 2 wanted",
         ),
         (
             "rows 1 2\ncolumns 1 2\n",
             &[],
-            "22 at 2: column count not n', or not 2n' over p²; 2 given, 1 wanted (2 with --quadratic)",
+            "22 at 2: column count not n' (N' for two keys, twice that over p²); 2 given, 1 wanted (2 with --quadratic)",
         ),
         (
             "rows 1 2 3 4\ncolumns 1\n",
             &["--quadratic"],
-            "22 at 1: column count not n', or not 2n' over p²; 1 given, 2 wanted (1 without --quadratic)",
+            "22 at 1: column count not n' (N' for two keys, twice that over p²); 1 given, 2 wanted (1 without --quadratic)",
         ),
         (
             "rows 1 2 3 4\ncolumns 1 4294967295\n",
@@ -406,7 +380,7 @@ fn what_is_answered_before_a_refused_point_is_printed() {
     folder.run(&["evaluate", "sample", "--point=two"]).answers(
         2,
         "rows 0\ncolumns 1\n0 5 7 0\n1 10 14 0\nA 10 B 14 C 0\n\
-         refused 22 at 0: column count not n', or not 2n' over p²; 0 given, 1 wanted; point 2 of \"two\"; \
+         refused 22 at 0: column count not n' (N' for two keys, twice that over p²); 0 given, 1 wanted; point 2 of \"two\"; \
          key \"sample\"\nfactors 3\n",
     );
     let ran = folder.run(&["evaluate", "sample", "--point=two", "--json"]);
@@ -427,7 +401,7 @@ fn of_several_pairs_a_refused_point_names_the_keys() {
     );
     folder.write("point", b"rows\ncolumns 1\n");
     folder.write("list", b"sample flat\nflat sample\n");
-    let wanted = "refused 21 at 0: row count not n, or not 2n over p²; 0 given, 1 wanted; point 1 of \"point\"";
+    let wanted = "refused 21 at 0: row count not n (N for two keys, twice that over p²); 0 given, 1 wanted; point 1 of \"point\"";
     folder
         .run(&["compare", "--pairs=list", "--point=point"])
         .answers(

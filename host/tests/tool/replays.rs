@@ -190,7 +190,7 @@ fn a_later_point_may_show_the_difference() {
     folder.write("points", b"rows 1\ncolumns 5\nrows\ncolumns\n");
     run(&["flat", "other"]).answers(
         2,
-        "refused 21 at 0: row count not n, or not 2n over p²; 0 given, 1 wanted; point 2 of \"points\"; \
+        "refused 21 at 0: row count not n (N for two keys, twice that over p²); 0 given, 1 wanted; point 2 of \"points\"; \
          keys \"flat\" \"other\"\n",
     );
 }

@@ -2,6 +2,7 @@
 
 use crate::archive::Served;
 use crate::cases::{outcomes, run_each, Case};
+use crate::generator::grown::{grown, larger};
 use crate::generator::inputs::{nonzero_point, sheet, Point};
 use crate::generator::path::{end_of, path};
 use crate::generator::random::Random;
@@ -63,14 +64,13 @@ impl Kind {
 
     /// Evaluate of a key at a point.
     fn evaluate<F: Served>(&self, random: &mut Random, records: &[Record]) -> Case {
-        let point = self.point_of::<F>(random, records);
+        let point = self.point_of::<F>(random, shape(records));
         let sheet = sheet::<F>(random, arrays(records));
         evaluate_case::<F>(random, &bytes(records), &point, &sheet)
     }
 
-    /// A point for a key.
-    fn point_of<F: Served>(&self, random: &mut Random, records: &[Record]) -> Point {
-        let (rows, columns) = shape(records);
+    /// A point of so many row and column coordinates.
+    fn point_of<F: Served>(&self, random: &mut Random, (rows, columns): (usize, usize)) -> Point {
         (self.point)(random, F::NUMBERS * rows, F::NUMBERS * columns)
     }
 
@@ -81,14 +81,18 @@ impl Kind {
         cell_case(random, &bytes(records), row, column, &sheet)
     }
 
-    /// Compare of a key with another of its shape, in either order.
+    /// Compare of a key with another, of its shape or grown where there is room, in either order.
     fn compare<F: Served>(&self, random: &mut Random, records: &[Record]) -> Case {
-        let second = match random.below(3) {
+        let second = match random.below(4) {
             0 => altered(random, records),
             1 => reworded(random, records),
+            2 => {
+                let axes = random.pick(&[[true, false], [false, true], [true, true]]);
+                grown(random, records, axes)
+            }
             _ => other(random, shape(records)),
         };
-        let point = self.point_of::<F>(random, records);
+        let point = self.point_of::<F>(random, larger(records, &second));
         let sheet = sheet::<F>(random, arrays(records).max(arrays(&second)));
         let mut keys = [bytes(records), bytes(&second)];
         if random.chance(2) {

@@ -168,7 +168,12 @@ fn counted<F>(key: &[u8], answer: Result<Evaluated<F>, Refusal>) -> Result<[F; 3
 
 /// The count of factors of an accepted key, by its records.
 fn factors_of(key: &[u8]) -> u64 {
-    key::factors(&key::read(key).expect("the key is accepted"))
+    key::factors(&read(key))
+}
+
+/// An accepted key, read.
+fn read(key: &[u8]) -> key::Key {
+    key::read(key).expect("the key is accepted")
 }
 
 /// What evaluate answers on a sheet that is long enough.
@@ -214,7 +219,7 @@ pub fn compare_quadratic(
 }
 
 /// The same over any field.
-fn compare_over<F: Served>(
+pub fn compare_over<F: Served>(
     first: &[u8],
     second: &[u8],
     rows: &[u32],
@@ -229,14 +234,24 @@ fn compare_over<F: Served>(
     counted_in_both([first, second], answer)
 }
 
-/// Whether an answer about two keys is "same"; its count of factors must be that of both keys' records.
+/// Whether an answer about two keys is "same"; its count of factors must be that of both keys' records and of the
+/// coordinates that each does not use.
 fn counted_in_both(
     keys: [&[u8]; 2],
     answer: Result<Compared, CompareRefusal>,
 ) -> Result<bool, CompareRefusal> {
     let Compared { same, factors } = answer?;
-    assert_eq!(factors, keys.map(factors_of).iter().sum());
+    let [one, other] = keys.map(read);
+    assert_eq!(factors, key::factors_of_both(&one, &other));
     Ok(same)
+}
+
+/// The refusal of compare with a number, at a place, that names neither key.
+pub fn neither<T>(number: u32, place: u64) -> Result<T, CompareRefusal> {
+    Err(CompareRefusal {
+        key: 0,
+        refusal: Refusal { number, place },
+    })
 }
 
 /// The refusal with a number, at a place.

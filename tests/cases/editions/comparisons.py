@@ -7,8 +7,8 @@ from tests.model.fields import P, TOP
 from tests.model.words import times, words
 
 from ..comparisons import both_ways
-from ..counts import SHAPES, Values, bound, unweighed
-from ..keys import CIRCUIT, EMPTY, keyed, of_cells, scaled
+from ..counts import SHAPES, Values, bound, counted_pair, unweighed
+from ..keys import CIRCUIT, EMPTY, keyed, last_place, of_cells, scaled
 from ..towers import drawn_levels, scaled_tower, scaled_tower_factors, shapes, tower, tower_factors, tower_values
 
 # A part of two row bits and one column bit, which calls place.
@@ -78,13 +78,10 @@ def tower_cases(cases, draw):
 def count_cases(cases, draw):
     """A call with a factor against none, in the other edition: the same exactly where its position has no weight."""
     for factor, bits in itertools.product((1, P - 1, 1 + draw.below(P - 1)), SHAPES):
-        place, values = tuple(2**n - 1 for n in bits), Values(draw, 16)
+        place, values = last_place(bits), Values(draw, 16)
         head, call = words("scaled_head", bits), words("scaled_call 0", (*place, factor))
         text = f"{head}, sparse 0 0, cell 0 0 3 5 7, {words('recursive', bits)}, {call}, end"
-        same = unweighed(bits, place)
-        found = cases.count(text, of_cells(bits, []), bits, values.all, lambda x: "S" if same(x) else "D", values.name)
-        if found != bound(bits, values):
-            raise ValueError(f"same at {found} points, not at {bound(bits, values)}")
+        counted_pair(cases, (text, of_cells(bits, [])), bits, values, unweighed(bits, place), bound(bits, values))
 
 
 def comparison_cases(cases, draw):

@@ -6,8 +6,23 @@ from tests.draw.numbers import drawn_edges, drawn_point, numbered
 from tests.model.fields import P, with_zeros
 from tests.model.words import words
 
-from ..comparisons import both_ways
-from ..keys import CIRCUIT, FAULTY, ONE, REWRITTEN, THREE, TWO, keyed, of_cells, pair, part, single
+from ..keys import (
+    ACROSS,
+    CIRCUIT,
+    FAULTY,
+    NONE,
+    ONE,
+    REWRITTEN,
+    THREE,
+    TWO,
+    keyed,
+    last_place,
+    of_cells,
+    pair,
+    part,
+    single,
+)
+from ..products import HALF
 from .shared import BOTH, I, MINUS_I, UNIT, ZERO, point_of
 
 
@@ -39,6 +54,19 @@ def root_cases(cases):
     cases.compare(one, two, ZERO, (), "same")
 
 
+def unused_root_cases(cases):
+    """1 in a key of no bits, weighed by (1 - r)(1 - s), against 1 and -1 at the last place of a larger one, weighed by r·s. At
+    (1 + i)/2 the unused 1 - r is -i·r, and at (1 - i)/2 it is i·r: so at two points the products are equal, else opposite.
+    """
+    up, down = (HALF, HALF), (HALF, P - HALF)
+    for bits, which in itertools.product(((2, 0), (1, 1), (0, 2)), range(3)):
+        last, n = last_place(bits), 2 * bits[0]
+        for r, s, value in itertools.product((up, down), (up, down), (1, P - 1)):
+            keys = pair(which % 2, single((0, 0), (0, 0), part(which, 1)), single(bits, last, part(which, value)))
+            wanted = "same" if (r != s) == (value == 1) else "different"
+            cases.compare(*keys, (*r, *s)[:n], (*r, *s)[n:], wanted)
+
+
 def compared_sheets(cases):
     """Number 31 for the key with more arrays, and what sheets hold: the second key's numbers, then those of the first."""
     for (one, arrays), (other, others) in itertools.product({ONE: 1, TWO: 2, THREE: 3}.items(), repeat=2):
@@ -49,28 +77,36 @@ def compared_sheets(cases):
     first = f"{P - 28} {P - 49} {P - 32} {P - 56} {P - 36} {P - 63}"
     cases.compare(ONE, TWO, (5, 7), (), f"different sheet 7 0 8 0 9 0 {first} 113", numbered(13))
     cases.compare(TWO, ONE, (5, 7), (), f"different sheet 5 7 10 14 15 21 {first} 113", numbered(13))
+    # Shapes that are unequal: each key's numbers at its own coordinates, which nothing multiplies.
+    cases.compare(NONE, TWO, (5, 7), (), f"same sheet 7 0 8 0 9 0 {first} 113", numbered(13))
+    cases.compare(TWO, NONE, (5, 7), (), f"same sheet 7 0 8 0 9 0 {first} 113", numbered(13))
+    cases.compare(ONE, NONE, (5, 7), (), "different sheet 7 0 8 0 9 0 107", numbered(7))
+    cases.compare(ONE, ACROSS, (5, 7), (2, 3), "different sheet 2 3 4 6 6 9 107", numbered(7))
+    cases.compare(ACROSS, ONE, (5, 7), (2, 3), "different sheet 5 7 10 14 15 21 107", numbered(7))
+    cases.compare(TWO, NONE, (5, 7), (), "neither refused 31 at 12", numbered(11))
 
 
 def compare_orders(cases):
-    """Compare's order, for each fault alone, each two of them, and each with all behind it."""
+    """Compare's order, for each fault alone, each two of them, and each with all behind it, on shapes that are equal and that
+    are not.
+    """
     wanted = (
         "first refused 13 at 7",
         "second refused 12 at 9",
-        "neither refused 35 at 0",
         "neither refused 21 at 5",
         "neither refused 22 at 2",
         "neither refused 23 at 3",
         "neither refused 23 at 7",
         "neither refused 31 at 18",
     )
-    pairs = itertools.combinations_with_replacement(range(8), 2)
-    for faults in dict.fromkeys((*map(frozenset, pairs), *(frozenset(range(i, 8)) for i in range(8)))):
-        bits = "2 1" if 2 in faults else "2 2"
-        first = f"head 2 2, sparse 2 2, end{', end' if 0 in faults else ''}"
-        second = f"head {bits}, 2 times sparse 0 0, {'' if 1 in faults else f'sparse {bits}, '}end"
-        rows = [3, 4, 5, P if 5 in faults else 6, *([7] if 3 in faults else [])]
-        columns = [8, 9, 10, P if 6 in faults else 11][: 2 if 4 in faults else 4]
-        cases.compare(first, second, rows, columns, wanted[min(faults)], numbered(17 if 7 in faults else 18))
+    pairs = itertools.combinations_with_replacement(range(7), 2)
+    chosen = dict.fromkeys((*map(frozenset, pairs), *(frozenset(range(i, 7)) for i in range(7))))
+    for faults, (one, other) in itertools.product(chosen, (("2 2", "2 2"), ("2 2", "2 1"), ("2 1", "1 2"))):
+        first = f"head {one}, sparse {one}, end{', end' if 0 in faults else ''}"
+        second = f"head {other}, 2 times sparse 0 0, {'' if 1 in faults else f'sparse {other}, '}end"
+        rows = [3, 4, 5, P if 4 in faults else 6, *([7] if 2 in faults else [])]
+        columns = [8, 9, 10, P if 5 in faults else 11][: 2 if 3 in faults else 4]
+        cases.compare(first, second, rows, columns, wanted[min(faults)], numbered(17 if 6 in faults else 18))
 
 
 def key_faults(cases):
@@ -78,5 +114,3 @@ def key_faults(cases):
     for number, (text, place) in FAULTY.items():
         cases.compare(text, ONE, (3, 4), (), f"first refused {number} at {place}", numbered(12))
         cases.compare(ONE, text, (P,), (P,), f"second refused {number} at {place}", numbered(1))
-    shapes_differ = single((1, 2), (0, 0), (1, 2, 3)), single((2, 1), (0, 0), (1, 2, 3))
-    both_ways(cases, *shapes_differ, ((1, 2), (3, 4, 5, 6)), "neither refused 35 at 0")

@@ -10,7 +10,7 @@ from tests.model.words import byte_words, key, times, words
 
 from ..keys import NESTED, PATTERNS, SAMPLE, pair, single
 from ..towers import drawn_levels, shapes, tower, tower_factors, tower_values
-from .shared import BOTH, GREATEST, I, MINUS_I, UNIT, ZERO, doubled, point_of
+from .shared import BOTH, GREATEST, I, MINUS_I, UNIT, ZERO, point_of
 
 
 def product_cases(cases):
@@ -78,7 +78,7 @@ def weight_cases(cases, draw):
         cases.evaluate(single((30, 30), pair(axis, 2**bit, 0), (1, 10, P - 1)), *point)
     for _ in range(10):
         cases.evaluate(NESTED, *point_of(draw, (3, 2)))
-        cases.evaluate(NESTED, *drawn_edges(draw, doubled((3, 2))))
+        cases.evaluate(NESTED, *drawn_edges(draw, QUADRATIC.counts((3, 2))))
     for pattern in PATTERNS:
         cases.evaluate(f"head 3 1, {pattern}, end", *point_of(draw, (3, 1)))
 

@@ -22,11 +22,6 @@ class Quadratics:
         self.cases.compare(*about, **named, field=QUADRATIC)
 
 
-def doubled(bits):
-    """How many numbers a point has on each side, for a key of these bits."""
-    return [2 * n for n in bits]
-
-
 def point_of(draw, bits):
     """The numbers of a drawn point for a key of these bits."""
-    return drawn_point(draw, doubled(bits))
+    return drawn_point(draw, QUADRATIC.counts(bits))

@@ -3,13 +3,14 @@
 from tests.draw.changes import damaged, in_other_edition, nearly, rewritten
 from tests.draw.keys import drawn_key, encoded
 from tests.draw.numbers import drawn_edges, numbered, spoiled
+from tests.model.fields import QUADRATIC
 from tests.model.words import key_words
 
 from ..keys import pair
-from .comparisons import compare_orders, compared_sheets, key_faults, root_cases, same_cases
+from .comparisons import compare_orders, compared_sheets, key_faults, root_cases, same_cases, unused_root_cases
 from .evaluations import greatest_cases, old_point_cases, product_cases, tower_cases, weight_cases
 from .refusals import count_cases, evaluate_orders, number_cases, sheet_cases
-from .shared import Quadratics, doubled, point_of
+from .shared import Quadratics, point_of
 
 
 def sweep(cases, draw):
@@ -20,7 +21,7 @@ def sweep(cases, draw):
         records = drawn_key(draw, 5, 1)
         text, bits = key_words(encoded(records)), records[0][1]
         cases.evaluate(text, *point_of(draw, bits))
-        cases.evaluate(text, *drawn_edges(draw, doubled(bits)))
+        cases.evaluate(text, *drawn_edges(draw, QUADRATIC.counts(bits)))
         other = key_words(encoded(rewritten(draw, records)))
         cases.compare(*pair(i % 2, text, other), *point_of(draw, bits), "same")
         moved = key_words(encoded(in_other_edition(records)))
@@ -47,6 +48,7 @@ def quadratic_cases(cases, draw):
     evaluate_orders(quadratics)
     same_cases(quadratics, draw)
     root_cases(quadratics)
+    unused_root_cases(quadratics)
     compared_sheets(quadratics)
     compare_orders(quadratics)
     key_faults(quadratics)

@@ -1,5 +1,4 @@
 -- `compare_quadratic::by_tables` meets its contract: the judgements in their order, then the two passes.
-use Prim.Native.Nat.{_*_, _≤_}
 use mathlib.Core.Path.{_≡_, sym, ap, _∙_}
 use native.Mathlib.Omega.{arith}
 use denote.Ref.{now}
@@ -9,11 +8,12 @@ use Rattle.refusal.specs.Outcome.{given}
 use Rattle.quadratic.specs.Quadratic.{quadratic}
 use Rattle.quadratic.proofs.QuadraticLawful.{quadratic-lawful}
 use Rattle.key.specs.Check.{checkedOutcome, checkedKey}
-use Rattle.judge.specs.Inner.{AtPoint}
 use Rattle.judge.specs.Judged.{pairJudged}
-use Rattle.evaluation.proofs.EvaluatePromises.{arrays-counted, at-most-1024, table-indexed}
+use Rattle.judge.proofs.KeysTogether.{few-records}
+use Rattle.evaluation.proofs.EvaluatePromises.{table-indexed}
 use Rattle.comparison.proofs.CompareCases.{promised, first-refused, second-refused, neither-refused}
-use Rattle.comparison.proofs.TwoPasses.{first-pass, second-pass, both-passed}
+use Rattle.comparison.proofs.PairNotRefused.{BothServed}
+use Rattle.comparison.proofs.TwoPasses.{served, both-passed}
 use Rattle.compare_quadratic.proofs.by_tables.Statement.{statement}
 use Rattle.compare_quadratic.proofs.by_tables.Tie as tie
 
@@ -42,22 +42,13 @@ admitted-at : (c : tie.After-enum-told) →
     ≡ given (c .enum-told .given .0 .0)
 admitted-at c = sym (c .before .before .pair .ensures) ∙ ap checkedOutcome (c .enum-told .given .1)
 
--- what the passes ask of the point and of the sheet
-first-ready : (c : tie.After-enum-told) →
+both-ready : (c : tie.After-enum-told) →
     let args = start (firstly (counted c)) .args in
-    AtPoint quadratic (now (args .first)) (now (args .rows)) (now (args .columns)) ×
-    (6 * firstly (counted c) .counts .given .0 .0 .arrays ≤ length (now (args .sheet)))
-first-ready c =
-    first-pass quadratic _ _ _ _ (now (start (firstly (counted c)) .args .sheet)) _ _ _ (first-accepted (firstly (counted c)))
-    (second-accepted (counted c)) (admitted-at c) quadratic-lawful
-
-second-ready : (c : tie.After-enum-told) →
-    let args = start (firstly (counted c)) .args in
-    AtPoint quadratic (now (args .second)) (now (args .rows)) (now (args .columns)) ×
-    (6 * counted c .counts2 .given .0 .0 .arrays ≤ length (now (args .sheet)))
-second-ready c =
-    second-pass quadratic _ _ _ _ (now (start (firstly (counted c)) .args .sheet)) _ _ _ (first-accepted (firstly (counted c)))
-    (second-accepted (counted c)) (admitted-at c) quadratic-lawful
+    BothServed quadratic quadratic-lawful (now (args .first)) (now (args .second)) _ _ (first-accepted (firstly (counted c)))
+    (second-accepted (counted c)) (now (args .rows)) (now (args .columns)) (length (now (args .sheet))) (c .enum-told .given .0 .0)
+both-ready c =
+    served quadratic quadratic-lawful _ _ _ _ (now (start (firstly (counted c)) .args .sheet)) _ _ _ (first-accepted (firstly (counted c)))
+    (second-accepted (counted c)) (admitted-at c)
 
 index-requires : tie.Need-index-requires
 index-requires c κs = search needs
@@ -99,7 +90,8 @@ enum-known-counts-2 : tie.Need-enum-known-counts-2
 enum-known-counts-2 c = search needs
 
 pair-requires : tie.Need-pair-requires
-pair-requires c κs = (omega arith, at-most-1024 _ _ (first-accepted (firstly (c .before))), at-most-1024 _ _ (second-accepted (c .before)))
+pair-requires c κs =
+    (omega arith, few-records _ _ (first-accepted (firstly (c .before))), few-records _ _ (second-accepted (c .before)))
 
 enum-known-refusal-3 : tie.Need-enum-known-refusal-3
 enum-known-refusal-3 c = search needs
@@ -125,19 +117,16 @@ run-requires c κs =
     let told = c .before .before .before in
     let accepted = first-accepted (firstly (counted told)) in
     let accepted-2 = second-accepted (counted told) in
-    let ready = first-ready told in
-    let ready-2 = second-ready told in (
+    let ready = both-ready told in (
       record {
         indexed = table-indexed _ _ accepted _ (firstly (counted told) .before .before .before .before .index .ensures .1);
-        counted = arrays-counted _ _ accepted;
-        point = ready .0;
-        room = ready .1;
+        accepted = accepted;
+        serves = ready .first-serves;
       },
       record {
         indexed = table-indexed _ _ accepted-2 _ (counted told .before .before .before .before .index2 .ensures .1);
-        counted = arrays-counted _ _ accepted-2;
-        point = ready-2 .0;
-        room = ready-2 .1;
+        accepted = accepted-2;
+        serves = ready .second-serves;
       },
     )
 
@@ -154,7 +143,7 @@ returns-4 : tie.Need-returns-4
 returns-4 c =
     let told = c .before .before .before .before .before .before in
     promised quadratic _ _ _ _ _ _ _ _
-    (both-passed quadratic _ _ _ _ _ _ _ _ (first-accepted (firstly (counted told))) (second-accepted (counted told)) (admitted-at told) _ _ _
+    (both-passed quadratic quadratic-lawful _ _ _ _ _ _ _ _ (first-accepted (firstly (counted told))) (second-accepted (counted told)) (admitted-at told) _ _ _
     (c .before .before .run .ensures .0) (c .before .before .run .ensures .1 .0) (c .before .before .run .ensures .1 .1))
 
 pub by-tables-spec : {M : Type 1} → statement M

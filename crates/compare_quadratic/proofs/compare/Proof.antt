@@ -1,7 +1,8 @@
 -- `compare_quadratic::compare` meets its contract: the tables have places for all arrays of short keys, or of any.
-use Rattle.compare_quadratic.proofs.Agreement.{quadratic-agreement}
 use borrow.Author.Needs.{needs}
-use Rattle.comparison.proofs.CompareCases.{both-limited}
+use Rattle.quadratic.specs.Quadratic.{quadratic}
+use Rattle.compare_quadratic.proofs.Agreement.{quadratic-agreement}
+use Rattle.comparison.proofs.CompareCases.{both-told}
 use Rattle.compare_quadratic.proofs.compare.Statement.{statement}
 use Rattle.compare_quadratic.proofs.compare.Tie as tie
 
@@ -20,7 +21,7 @@ same-length c = search needs
 returns : tie.Need-returns
 returns c =
     let e = c .before .before .before .before .by-tables .ensures in
-    (e .0, (e .1 .0, (e .1 .1, (quadratic-agreement _ _, both-limited _ _))))
+    (e .0, (e .1 .0, (e .1 .1, (quadratic-agreement _ _, both-told quadratic _ _ _ _ _ _ (e .1 .0)))))
 
 slice-aggregate-by-tables-3 : tie.Need-slice-aggregate-by-tables-3
 slice-aggregate-by-tables-3 c = search needs
@@ -37,7 +38,7 @@ same-length-2 c = search needs
 returns-2 : tie.Need-returns-2
 returns-2 c =
     let e = c .before .before .before .before .by-tables2 .ensures in
-    (e .0, (e .1 .0, (e .1 .1, (quadratic-agreement _ _, both-limited _ _))))
+    (e .0, (e .1 .0, (e .1 .1, (quadratic-agreement _ _, both-told quadratic _ _ _ _ _ _ (e .1 .0)))))
 
 pub compare-spec : {M : Type 1} → statement M
 compare-spec =

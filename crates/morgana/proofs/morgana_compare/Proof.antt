@@ -1,7 +1,9 @@
 -- `morgana::morgana_compare` meets its contract: the reply to what compare answers, and the sheet that it leaves.
 use mathlib.Core.Path.{ap₂, _∙_}
 use borrow.Author.Needs.{needs}
+use Rattle.compare.specs.Answer.{comparedAnswer}
 use Rattle.morgana.specs.Reply.{compareReply}
+use Rattle.morgana.proofs.Replies.{limit-told}
 use Rattle.morgana.proofs.morgana_compare.Statement.{statement}
 use Rattle.morgana.proofs.morgana_compare.Tie as tie
 
@@ -17,7 +19,13 @@ same-length c = search needs
 returns : tie.Need-returns
 returns c =
     let answered = c .before .before .before .compare .ensures in
-    (c .of-compared .ensures ∙ ap₂ compareReply (answered .0) (answered .1 .0), answered .1 .1)
+    let answer = comparedAnswer (c .before .before .before .compare .result) in (
+      c .of-compared .ensures ∙ ap₂ compareReply (answered .0) (answered .1 .0),
+      (
+        answered .1 .1 .0,
+        (answered .1 .1 .1 .0, limit-told _ _ _ answer _ (c .of-compared .ensures) (answered .1 .1 .1 .1)),
+      ),
+    )
 
 pub morgana-compare-spec : {M : Type 1} → statement M
 morgana-compare-spec =

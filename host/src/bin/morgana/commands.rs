@@ -59,7 +59,8 @@ pub fn evaluate<'a>(
         match evaluate_at(&key, counts, point, field) {
             Ok(evaluation) => Outcome::Evaluated(field, evaluation),
             Err((refusal, point)) => {
-                let detail = point_detail(refusal, &point, counts, field);
+                let bits = (counts.rows, counts.columns);
+                let detail = point_detail(refusal, &point, bits, field);
                 refused(refusal, detail, about(number))
             }
         }
@@ -142,17 +143,17 @@ fn random(counts: Counts, field: Field) -> Result<Point, Failure> {
         .map_err(Failure::Random)
 }
 
-/// What is known of the refusal of a point: how many numbers there are and how many there must be, also where the other
-/// field has as many, or which is p or more.
+/// What is known of the refusal of a point, which is to have so many row and column coordinates: how many numbers there are
+/// and how many there must be, also where the other field has as many, or which is p or more.
 pub fn point_detail(
     refusal: Refusal,
     point: &Point,
-    counts: Counts,
+    (rows, columns): (u32, u32),
     field: Field,
 ) -> Option<String> {
     let (given, bits) = match refusal.number {
-        number::ROW_COUNT_WRONG => (point.rows.len(), counts.rows as usize),
-        number::COLUMN_COUNT_WRONG => (point.columns.len(), counts.columns as usize),
+        number::ROW_COUNT_WRONG => (point.rows.len(), rows as usize),
+        number::COLUMN_COUNT_WRONG => (point.columns.len(), columns as usize),
         number::COORDINATE_TOO_GREAT => {
             return coordinate_detail(refusal.place as usize, point, field)
         }

@@ -5,7 +5,8 @@ use crate::fault::detail;
 use crate::files::Name;
 use crate::outcome::{About, Failure, Outcome, Source, Tried, Verdict};
 use crate::progress::Progress;
-use morgana::{number, CompareRefusal, Counts, Field, Likelihood, Point, RandomPoints, Which};
+use crate::shapes::Shapes;
+use morgana::{CompareRefusal, Counts, Field, Likelihood, Point, RandomPoints, Which};
 use morgana::{Compared, SHEET_QUADRATIC};
 
 /// The points at which keys are to be compared.
@@ -100,14 +101,20 @@ impl<'a> Trial<'a> {
         })
     }
 
-    /// The counts whose row bits and column bits a point goes by.
-    fn shape(&self) -> Counts {
-        self.old.counts
+    /// How many row coordinates and column coordinates a point has.
+    fn bits(&self) -> (u32, u32) {
+        self.old.counts.larger_shape(self.new.counts)
     }
 
     /// The coordinates of a point.
     fn m(&self) -> u32 {
-        self.shape().rows + self.shape().columns
+        let (rows, columns) = self.bits();
+        rows + columns
+    }
+
+    /// The shapes of the keys, where they are not one.
+    fn shapes(&self) -> Option<Shapes> {
+        Shapes::of(self.old.counts, self.new.counts)
     }
 
     /// Compares the keys at random points.
@@ -117,7 +124,7 @@ impl<'a> Trial<'a> {
             Points::Number(count) => count,
             _ => Likelihood::points(field, m),
         };
-        let Counts { rows, columns, .. } = self.shape();
+        let (rows, columns) = self.bits();
         let random = RandomPoints::new(rows, columns, field);
         let mut random = random.map_err(Failure::Random)?;
         let points = (0..count).map(|_| random.draw().map_err(Failure::Random));
@@ -168,6 +175,7 @@ impl<'a> Trial<'a> {
         Tried {
             field,
             m,
+            shapes: self.shapes(),
             count,
             source,
             factors,
@@ -185,7 +193,7 @@ impl<'a> Trial<'a> {
         compare(first, second, &point.rows, &point.columns, &mut sheet)
     }
 
-    /// The refusal of the shapes, or of a point with its number.
+    /// The refusal of a point with its number.
     fn refused(
         &self,
         refused_for: CompareRefusal,
@@ -194,33 +202,18 @@ impl<'a> Trial<'a> {
         file: Option<&Name>,
     ) -> Outcome {
         let refusal = refused_for.refusal;
-        if refusal.number == number::SHAPES_DIFFER {
-            return refused(refusal, Some(self.shapes()), About::Both);
-        }
         let about = match (refused_for.which, file) {
             (Which::First, _) => About::Old(self.old.name.clone()),
             (Which::Second, _) => About::New(self.new.name.clone()),
             (Which::Neither, Some(file)) => About::Point(file.clone(), number as usize),
             (Which::Neither, None) => About::Both,
         };
-        let detail = point_detail(refusal, point, self.shape(), self.manner.field);
+        let detail = point_detail(refusal, point, self.bits(), self.manner.field);
+        let bits = self
+            .shapes()
+            .and_then(|shapes| shapes.behind(refusal.number));
+        let known: Vec<_> = detail.into_iter().chain(bits).collect();
+        let detail = (!known.is_empty()).then(|| known.join(": "));
         refused(refusal, detail, about)
-    }
-
-    /// The shapes of both keys in words.
-    fn shapes(&self) -> String {
-        let bits = |counts: Counts| {
-            format!(
-                "row bits {} and column bits {}",
-                counts.rows, counts.columns
-            )
-        };
-        format!(
-            "old key {} has {}, new key {} {}",
-            self.old.name,
-            bits(self.old.counts),
-            self.new.name,
-            bits(self.new.counts)
-        )
     }
 }

@@ -43,12 +43,15 @@ Values are modulo p = 2147483647.
 
   morgana compare OLD NEW [--points N | --point FILE] [--quadratic] [--quiet]
   morgana compare --pairs FILE ...
-      Compares two keys of one shape, also of two editions, at random points:
-      as many as bring the probability that keys that differ would pass below
+      Compares two keys, also of two shapes or editions, at random points: as
+      many as bring the probability that keys that differ would pass below
       2^-80 (at most 4), or N of them (1 to 1000000), or at the points in FILE,
       for which no bound is given. Prints `same` or `different`, what that
       rests on, and then the points; for `different` the first point that shows
       it. With --quiet no points are printed. The count of factors comes last.
+      Where one key has more row bits or column bits than the other, both are
+      compared as filled with zeros, and what stands behind the verdict says so:
+      old has 3 row bits, new 4: compared as filled with zeros
       Where OLD and NEW are folders, all files of the same path below them are
       compared. One that is no key is refused; one that only one folder has
       fails, and so does a link to a folder. With --pairs the files on each
@@ -71,14 +74,16 @@ Options
 
 What \"same\" means
   Two keys are the same where the dense matrices A, B and C of their last
-  arrays are equal in every cell, modulo p. How the keys are made up of arrays
+  arrays are equal in every cell, modulo p. A key with fewer row bits or column
+  bits than the other is read as filled with zeros up to as many, its own
+  matrices standing at row 0 and column 0. How the keys are made up of arrays
   does not matter, and arrays that the last one does not reach through calls do
   not count. The order of constraints and of witness numbers does: keys whose
   rows or columns are permuted are different. `different` is certain. `same` is
   certain where the files are identical, and where the matrices have one place
   (no row bits and no column bits); else it has the bound that is printed, for
-  points drawn at random once both keys are fixed. A bound below 1.0e-38 is
-  printed as that.
+  points drawn at random once both keys are fixed; m is the larger row bits and
+  the larger column bits together. A bound below 1.0e-38 is printed as that.
 
 Factors
   The last line of evaluate, cell and compare counts the factors of the weights
@@ -89,9 +94,12 @@ Factors
   the key. The factor of a call of edition 2 counts nothing, and with
   --quadratic the count is the same. It is at most (n + n')(cells + calls), by
   what check prints, where n and n' are rows and columns. Compare counts both
-  keys. The line adds up all answers of a run, at all their points; identical
-  files and refusals have no count, and where nothing has, there is no such
-  line. With --json each object has its own count.
+  keys, and for each key one for each coordinate that only the other uses: at
+  most (N + N')(cells + calls + 2), where N and N' are the larger rows and
+  columns, and cells and calls those of both keys. The line adds up all answers
+  of a run, at all their points; identical files and refusals have no count,
+  and where nothing has, there is no such line. With --json each object has its
+  own count.
 
 Point file
   Two lines for each point, as evaluate and compare print them; their whole
@@ -101,7 +109,8 @@ Point file
       rows 3 2147483646
       columns 4
   With --quadratic a coordinate is two numbers: `rows 3 2147483646` is one,
-  3 - i.
+  3 - i. A point for two keys has as many coordinates as the larger rows and
+  the larger columns, by what check prints.
 
 Refusals
   What the library refuses is answered with a line that begins
@@ -109,8 +118,7 @@ Refusals
   and goes on with what is known: the field that breaks the rule, the numbers
   given and wanted, the file. P is an offset in the key where N is 1 to 13 or
   55, the count received for 21 and 22, a number's index (rows first) for 23, 0
-  for the row and 1 for the column for 24, 0 for 35, and the moved key's length
-  for 56.
+  for the row and 1 for the column for 24, and the moved key's length for 56.
 
 Exit status
   0 accepted, moved or same, 1 different, 2 refused, 3 wrong usage, a file that

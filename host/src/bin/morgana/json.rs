@@ -274,12 +274,22 @@ fn with_verdict(object: Object, verdict: &Verdict) -> Object {
     with_tried(object, verdict, tried)
 }
 
-/// An object with the points that were tried, the bound on keys that differ where there is one, and the factors.
+/// An object with the points that were tried, the shapes where they are not one, the bound on keys that differ where there
+/// is one, and the factors.
 fn with_tried(object: Object, verdict: &Verdict, tried: &Tried) -> Object {
     let object = object
         .string("field", field_name(tried.field))
-        .number("m", tried.m)
-        .number("count", tried.count);
+        .number("m", tried.m);
+    let object = match tried.shapes {
+        Some(shapes) => object.numbers(&[
+            ("old_row_bits", shapes.old[0]),
+            ("old_column_bits", shapes.old[1]),
+            ("new_row_bits", shapes.new[0]),
+            ("new_column_bits", shapes.new[1]),
+        ]),
+        None => object,
+    };
+    let object = object.number("count", tried.count);
     match &tried.source {
         Source::File(file) => object.string("points_from", &file.text()),
         Source::Drawn(bound) if matches!(verdict, Verdict::Same(_)) && !bound.is_zero() => {

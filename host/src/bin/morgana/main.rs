@@ -16,6 +16,7 @@ mod pairs;
 mod points;
 mod progress;
 mod records;
+mod shapes;
 mod show;
 mod text;
 mod value;

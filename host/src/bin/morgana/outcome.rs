@@ -2,6 +2,7 @@
 
 use crate::files::Name;
 use crate::records::Edition;
+use crate::shapes::Shapes;
 use crate::show::Line;
 use morgana::{Counts, Evaluated, Field, Likelihood, Point, Refusal, Values};
 use std::fmt::{Display, Formatter};
@@ -103,11 +104,13 @@ pub struct Tried {
     pub field: Field,
     /// The coordinates of a point.
     pub m: u32,
+    /// The shapes of the two keys, where they are not one.
+    pub shapes: Option<Shapes>,
     /// How many points there are.
     pub count: u32,
     /// The file that they are from, or how likely keys that differ pass at as many random ones.
     pub source: Source,
-    /// The counts of factors of both keys, added up over the points that were tried.
+    /// The counts of factors of both keys together, added up over the points that were tried.
     pub factors: u64,
 }
 
@@ -188,6 +191,11 @@ impl Outcome {
 }
 
 impl Verdict {
+    /// The shapes of the two keys, where they are not one.
+    pub fn shapes(&self) -> Option<Shapes> {
+        self.tried().and_then(|tried| tried.shapes)
+    }
+
     /// The points at which the keys were compared; none for identical files.
     pub fn tried(&self) -> Option<&Tried> {
         match self {

@@ -9,9 +9,10 @@ use std::fmt::Write;
 const VERDICTS: [&str; 2] = ["same", "different"];
 
 /// How the other lines begin that evaluate and compare print beside the points, but for those of values and factors.
-const STARTS: [&str; 9] = [
+const STARTS: [&str; 10] = [
     "same \"",
     "different \"",
+    "old has ",
     "keys that differ would pass",
     "the files are identical",
     "the matrices have one place",
@@ -218,7 +219,8 @@ mod tests {
 
     #[test]
     fn several_points_and_what_stands_beside_them_are_read() {
-        let text = "same\nkeys that differ would pass with probability at most 1.0e-38 (m = 2, 9 points)\n\
+        let text = "same\nold has 0 row bits, new 1: compared as filled with zeros\n\
+            keys that differ would pass with probability at most 1.0e-38 (m = 2, 9 points)\n\
             rows 1\ncolumns 2\n0 20 28 0\nA 1 B 2 C 3\nfactors 3\nrows 3\ncolumns 4\nfactors 18446744073709551615\n";
         let wanted = vec![point(&[1], &[2]), point(&[3], &[4])];
         assert_eq!(read(text), Ok(wanted));
@@ -230,6 +232,7 @@ mod tests {
 { "rows" : [ 5 , 6 ], "columns" : [ ] }
 {"columns":[8],"rows":[7]}
 {"command":"check","rows":1,"columns":1}
+{"command":"compare","old":"a","new":"b","status":"same","m":2,"old_row_bits":0,"old_column_bits":1,"new_row_bits":1,"new_column_bits":0}
 {"command":"compare","old":"a b","status":"refused"}"#;
         let wanted = [
             (&[1][..], &[2][..]),
@@ -271,6 +274,7 @@ mod tests {
             r#"A 1 B 2 C 3{"rows":[1],"columns":[2]}"#,
             r#"same{"rows":[1],"columns":[2]}"#,
             r#"at point 1 of 2{"rows":[1],"columns":[2]}"#,
+            r#"old has 1 row bit, new 2: compared as filled with zeros{"rows":[1],"columns":[2]}"#,
             r#"factors 6{"rows":[1],"columns":[2]}"#,
             "A 1 B 2 C 3rows 4\ncolumns 5",
             "samerows 4\ncolumns 5",
@@ -311,6 +315,8 @@ mod tests {
             ("factors +1\n", 1, r#"does not begin with "rows""#),
             ("factors 1 2\n", 1, r#"does not begin with "rows""#),
             ("factor 1\n", 1, r#"does not begin with "rows""#),
+            ("old had 1 row bit\n", 1, r#"does not begin with "rows""#),
+            ("new has 1 row bit\n", 1, r#"does not begin with "rows""#),
             (
                 "factors 18446744073709551616\n",
                 1,

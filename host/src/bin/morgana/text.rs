@@ -25,11 +25,14 @@ pub fn text(answer: &Answer, several: bool) -> Pieces<'_> {
         }
         Outcome::Moved(moved) => format!("{}{files}\n", moved_line(moved)),
         Outcome::Compared(verdict, _) if several => {
-            format!("{}{files}; {}\n", word(verdict), in_short(verdict))
+            let word = format!("{}{files}", word(verdict));
+            let parts: Vec<_> = said(word, verdict, in_short(verdict)).collect();
+            parts.join("; ") + "\n"
         }
         Outcome::Compared(verdict, used) => {
-            let verdict = format!("{}\n{}\n", word(verdict), reason(verdict));
-            return Box::new(iter::once(verdict).chain(used.iter().map(points::text)));
+            let parts = said(word(verdict).to_owned(), verdict, reason(verdict));
+            let lines = parts.map(|line| line + "\n");
+            return Box::new(lines.chain(used.iter().map(points::text)));
         }
         // The refusal of a point names no key, and that of one key of a pair not the other.
         Outcome::Refused(lines, refused) => match (&refused.about, several) {
@@ -121,6 +124,12 @@ fn word(verdict: &Verdict) -> &'static str {
     }
 }
 
+/// What is said of two keys, in its order: the verdict in a word, their shapes where they are not one, and a reason.
+fn said(word: String, verdict: &Verdict, reason: String) -> impl Iterator<Item = String> {
+    let shapes = verdict.shapes().map(|shapes| shapes.line());
+    iter::once(word).chain(shapes).chain(iter::once(reason))
+}
+
 /// What the verdict rests on.
 fn reason(verdict: &Verdict) -> String {
     match verdict {
@@ -177,6 +186,7 @@ fn points_count(count: u32) -> String {
 mod tests {
     use super::*;
     use crate::files::Name;
+    use crate::shapes::Shapes;
     use morgana::{Likelihood, Point};
 
     /// An answer of compare with these points.
@@ -195,12 +205,21 @@ mod tests {
             rows: vec![number],
             columns: vec![],
         });
+        let unequal = |old, new| Some(Shapes { old, new });
         for field in [Field::Prime, Field::Quadratic] {
-            for m in [0, 1, 60] {
+            for (m, shapes) in [
+                (0, None),
+                (1, None),
+                (60, None),
+                (1, unequal([1, 0], [0, 0])),
+                (7, unequal([3, 0], [3, 4])),
+                (60, unequal([30, 1], [1, 30])),
+            ] {
                 for (count, file) in [(1, false), (1, true), (2, false), (2, true)] {
                     let tried = || Tried {
                         field,
                         m,
+                        shapes,
                         count,
                         source: match file {
                             true => Source::File(Name::from("f")),

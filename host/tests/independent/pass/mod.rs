@@ -68,7 +68,8 @@ pub fn evaluate<W: Weights>(
 ) -> Result<[W::Field; 3], Refusal> {
     let mut shapes = [[0; 2]; MOST_ARRAYS];
     let counts = check_with(key, &mut shapes)?;
-    judge::<W::Field>(counts, counts.arrays, rows, columns, sheet)?;
+    let shape = [counts.rows, counts.columns];
+    judge::<W::Field>(shape, counts.arrays, rows, columns, sheet)?;
     Ok(write(key, &shapes, &W::new(rows, columns), sheet))
 }
 
@@ -82,7 +83,8 @@ pub fn factors(key: &[u8]) -> Result<u64, Refusal> {
     Ok(counter.total())
 }
 
-/// Compare: the first key, the second key, 35, 21, 22, 23, 31; whether all three values agree.
+/// Compare: the first key, the second key, 21, 22, 23, 31; whether all three values agree, each key's times the weight of
+/// the coordinates that it does not use.
 pub fn compare<W: Weights>(
     first: &[u8],
     second: &[u8],
@@ -94,29 +96,56 @@ pub fn compare<W: Weights>(
     let [mut shapes, mut other_shapes] = [[[0; 2]; MOST_ARRAYS]; 2];
     let one = check_with(first, &mut shapes).map_err(of(1))?;
     let other = check_with(second, &mut other_shapes).map_err(of(2))?;
-    if (one.rows, one.columns) != (other.rows, other.columns) {
-        return refuse(35, 0).map_err(of(0));
-    }
+    let larger = one.larger(&other);
     let arrays = one.arrays.max(other.arrays);
-    judge::<W::Field>(one, arrays, rows, columns, sheet).map_err(of(0))?;
+    judge::<W::Field>(larger, arrays, rows, columns, sheet).map_err(of(0))?;
     let weights = W::new(rows, columns);
-    let of_first = write(first, &shapes, &weights, sheet);
-    let of_second = write(second, &other_shapes, &weights, sheet);
+    let of_first = write_filled(first, &one, &shapes, larger, &weights, sheet);
+    let of_second = write_filled(second, &other, &other_shapes, larger, &weights, sheet);
     Ok(of_first == of_second)
 }
 
-/// Refusals 21, 22 and 23, which count numbers, and 31 for this number of arrays.
+/// The count of factors of two accepted keys that are compared: those that compare asks for, counted apart.
+pub fn factors_of_both(first: &[u8], second: &[u8]) -> Result<u64, Refusal> {
+    let [mut shapes, mut other_shapes] = [[[0; 2]; MOST_ARRAYS]; 2];
+    let one = check_with(first, &mut shapes)?;
+    let other = check_with(second, &mut other_shapes)?;
+    let larger = one.larger(&other);
+    let counter = Counter::default();
+    let sheet = &mut [0; 3 * MOST_ARRAYS];
+    write_filled(first, &one, &shapes, larger, &counter, sheet);
+    write_filled(second, &other, &other_shapes, larger, &counter, sheet);
+    Ok(counter.total())
+}
+
+/// Writes every array's values of an accepted key at a point of so many row and column coordinates, and answers the last
+/// array's times the weight of row 0 and column 0 over the coordinates that the key does not use.
+fn write_filled<W: Weights>(
+    key: &[u8],
+    counts: &Counts,
+    shapes: &Shapes,
+    larger: [u32; 2],
+    weights: &W,
+    sheet: &mut [u32],
+) -> [W::Field; 3] {
+    let values = write(key, shapes, weights, sheet);
+    let [own, larger] = [[counts.rows, counts.columns], larger].map(|bits| bits.map(|n| n as u8));
+    let [unused] = weights.weigh([[0, 0]], own, larger);
+    values.map(|value| value.product(unused))
+}
+
+/// Refusals 21, 22 and 23, which count numbers, for these row and column bits, and 31 for this number of arrays.
 fn judge<F: Field>(
-    counts: Counts,
+    [row_bits, column_bits]: [u32; 2],
     arrays: u32,
     rows: &[u32],
     columns: &[u32],
     sheet: &[u32],
 ) -> Result<(), Refusal> {
-    if rows.len() != F::NUMBERS * counts.rows as usize {
+    if rows.len() != F::NUMBERS * row_bits as usize {
         return refuse(21, rows.len());
     }
-    if columns.len() != F::NUMBERS * counts.columns as usize {
+    if columns.len() != F::NUMBERS * column_bits as usize {
         return refuse(22, columns.len());
     }
     let mut numbers = rows.iter().chain(columns);

@@ -1,17 +1,22 @@
 -- `compare::both::run` meets its contract: with limbs and without them the passes come to the same.
 use native.Mathlib.Omega.{arith}
 use borrow.Author.Needs.{needs}
+use Rattle.field.specs.Scalars.{prime}
 use Rattle.weights.specs.Words.{singles}
 use Rattle.weights.proofs.SingleWords.{singles-lawful}
 use Rattle.weights.proofs.ZeroTable.{zeros-ready}
+use Rattle.comparison.proofs.FilledByTables.{arrays-are}
 use Rattle.compare.proofs.both.run.Statement.{statement}
 use Rattle.compare.proofs.both.run.Tie as tie
 
 saved-requires : tie.Need-saved-requires
-saved-requires c κs = search needs
+saved-requires c κs =
+    let one = c .before .before .before .before .before .before .before .pre .0 in (one .indexed, arrays-are prime _ _ _ _ _ _ one)
 
 saved-requires-2 : tie.Need-saved-requires-2
-saved-requires-2 c κs = search needs
+saved-requires-2 c κs =
+    let other = c .before .before .before .before .before .before .before .before .pre .1 in
+    (other .indexed, arrays-are prime _ _ _ _ _ _ other)
 
 add-limbs-pay : tie.Need-add-limbs-pay
 add-limbs-pay c = search needs

@@ -35,8 +35,6 @@ number-spec =
     (λ c. search needs)
     (λ c. search needs)
     (λ c. search needs)
-    (λ c. search needs)
-    (λ c. search (number-is, needs))
     (λ c. search (number-is, needs))
     (λ c. search (number-is, needs))
     (λ c. search (number-is, needs))
