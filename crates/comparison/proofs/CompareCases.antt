@@ -90,11 +90,14 @@ module _ (first second : List ℕ) (one other : Counts) (accepts : checkedKey fi
         let both = together one other in
         let entries : both .cells + both .calls ≡ one .cells + one .calls + (other .cells + other .calls) = omega arith in
         rw entries
-        (limits-add (one .rows + one .columns) (other .rows + other .columns) (both .rows + both .columns)
-        (one .cells + one .calls) (other .cells + other .calls)
-        (both .rows - one .rows + (both .columns - one .columns)) (both .rows - other .rows + (both .columns - other .columns)) _ _
-        (omega arith) (omega arith) (omega arith) (omega arith)
-        (key-limited first one accepts) (key-limited second other accepts'))
+        (omega (
+          arith,
+          limits-add (one .rows + one .columns) (other .rows + other .columns) (both .rows + both .columns)
+              (one .cells + one .calls) (other .cells + other .calls)
+              (both .rows - one .rows + (both .columns - one .columns)) (both .rows - other .rows + (both .columns - other .columns)) _ _
+              (omega arith) (omega arith) (omega arith) (omega arith)
+              (key-limited first one accepts) (key-limited second other accepts'),
+        ))
 
 pub both-limited : (𝓢 : Scalars) (first second rows columns sheet : List ℕ) →
     BothLimited first second (compared 𝓢 first second rows columns sheet .factors)
