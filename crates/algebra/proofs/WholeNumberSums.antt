@@ -1,8 +1,8 @@
--- Sums of whole numbers: compared and added term by term, and sums of which all terms but one are known.
+-- Sums of whole numbers: compared, added and multiplied term by term, and sums of which all terms but one are known.
 use Prim.Native.Nat.{ℕ, zero, suc, _+_, _-_, _*_, _≤_, _<_, zero-le}
-use mathlib.Core.Path.{_≡_, refl, ap, _∙_}
+use mathlib.Core.Path.{_≡_, refl, sym, ap, _∙_}
 use native.Mathlib.Decide.{ℕ-discrete}
-use native.Mathlib.Nat.{le-refl, mul-comm, mul-sub, mul-zero}
+use native.Mathlib.Nat.{le-refl, add-mul, mul-comm, mul-sub, mul-zero, zero-mul}
 use native.Mathlib.Omega.{arith}
 use Rattle.algebra.specs.Arithmetic.{sumBelow, whole}
 use Rattle.algebra.proofs.Sums.{sum-same}
@@ -21,6 +21,11 @@ pub total-const : (n c : ℕ) → sumBelow whole n (λ x. c) ≡ n * c
 unfolding sumBelow
 total-const zero c = omega arith
 total-const (suc n) c = omega (arith, total-const n c)
+
+pub total-mul : (n c : ℕ) (f : ℕ → ℕ) → sumBelow whole n (λ x. f x * c) ≡ sumBelow whole n f * c
+unfolding sumBelow
+total-mul zero c f = sym (zero-mul c)
+total-mul (suc n) c f = ap (λ (s : ℕ). s + f n * c) (total-mul n c f) ∙ sym (add-mul (sumBelow whole n f) (f n) c)
 
 -- one term is all there is
 pub total-one : (n z c : ℕ) (f : ℕ → ℕ) → z < n → f z ≡ c → ((x : ℕ) → x < n → (x ≡ z → ⊥) → f x ≡ 0) →

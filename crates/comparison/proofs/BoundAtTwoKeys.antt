@@ -1,17 +1,25 @@
 -- The agreement bound at two keys of one row bit and one column bit, one cell at the last place against none; and at two keys of unequal
--- shapes, a cell alone against its growth at the last place. Nothing that it assumes stands in the way.
-use Prim.Native.Nat.{_≤_}
-use mathlib.Core.Path.{refl}
+-- shapes, a cell alone against its growth at the last place. Nothing that it assumes stands in the way. The first two are compared at
+-- two points too, with one sheet handed on.
+use Prim.Native.Nat.{ℕ, _≤_}
+use mathlib.Core.Bool.{Bool, true, false}
+use mathlib.Core.List.{List, [], _∷_}
+use mathlib.Core.Path.{_≡_, refl}
 use native.Mathlib.Omega.{arith}
 use lib.ListN.{replicate}
+use Rattle.algebra.specs.Groups.{allBelow}
 use Rattle.algebra.specs.Points.{countPoints}
 use Rattle.field.specs.Fp.{p}
 use Rattle.field.specs.Scalars.{prime}
+use Rattle.field.proofs.PrimeLawful.{prime-lawful}
 use Rattle.arrays.specs.Arrays.{A, B}
-use Rattle.comparison.specs.AgreementBound.{AcceptedKey, Sheets, answerAt, isSame, DifferInCell}
+use Rattle.comparison.specs.AgreementBound.{AcceptedKey, LongEnough, Sheets, answerAt, isSame, DifferInCell}
+use Rattle.comparison.specs.SeveralPoints.{sameAtEach}
 use Rattle.comparison.proofs.Agreement.{prime-agreement}
 use Rattle.comparison.proofs.Examples.{corner, none}
 use Rattle.comparison.proofs.ExamplesOfGrowth.{small, grown}
+use Rattle.comparison.proofs.SeveralPoints.{several}
+use Rattle.comparison.proofs.SheetHandedOn.{handedOn, handed-on}
 use Rattle.comparison.proofs.Computing.{comparing}
 
 corner-accepted : AcceptedKey 1 1 corner
@@ -55,6 +63,36 @@ differ =
 corner-bounded : countPoints p 2 (λ point. isSame (answerAt prime 1 corner none point (replicate 3 9))) ≤ 4294967293
 unfolding sheets
 corner-bounded = prime-agreement corner none 1 1 1 1 corner-accepted none-accepted .differ sheets differ
+
+-- ---- two points
+
+three-places : LongEnough prime corner none (replicate 3 9)
+unfolding comparing
+three-places = record { for-first = omega arith; for-second = omega arith }
+
+-- is it "same" at both of two points, one sheet of three places being handed on from the first to the second?
+abbrev sameAtBoth : List ℕ → Bool
+sameAtBoth = sameAtEach prime 1 1 2 corner none (handedOn prime 1 1 corner none (replicate 3 9))
+
+-- (p² - (p - 1)²)², of the p⁴ lists of two points
+corner-bounded-twice : countPoints p 4 sameAtBoth ≤ 18446744047939747849
+unfolding handed-on
+corner-bounded-twice =
+    several prime prime-lawful corner none 1 1 1 1 2 corner-accepted none-accepted .differ
+    (handed-on prime 1 1 corner none (replicate 3 9) 2 three-places) differ
+
+-- the cell's weight is the product of a point's two numbers: zero at (0, 5) and at (7, 0), not at (2, 3)
+both-same : sameAtBoth (0 ∷ 5 ∷ 7 ∷ 0 ∷ []) ≡ true
+unfolding comparing allBelow isSame handedOn
+both-same = refl
+
+first-not-same : sameAtBoth (2 ∷ 3 ∷ 7 ∷ 0 ∷ []) ≡ false
+unfolding comparing allBelow isSame handedOn
+first-not-same = refl
+
+second-not-same : sameAtBoth (0 ∷ 5 ∷ 2 ∷ 3 ∷ []) ≡ false
+unfolding comparing allBelow isSame handedOn
+second-not-same = refl
 
 -- ---- unequal shapes
 

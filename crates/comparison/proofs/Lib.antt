@@ -1,4 +1,4 @@
--- "Same" is not "different".
+-- "Same" is not "different", and neither is a refusal.
 pub mod Answers
 -- A key takes no more coordinates than it uses: at a longer point its arrays have the values that they have at the coordinates it uses.
 pub mod UsedCoordinates
@@ -30,6 +30,12 @@ pub mod LongEnough
 pub mod Agreement
 -- The agreement bound where q is p, in plain numbers: for keys of one shape it is demand 3.
 pub mod AgreementOverP
+-- Two keys compared at several points, from the agreement bound at one: the counts multiply.
+pub mod SeveralPoints
+-- Two keys compared at several points where q is p, in plain numbers.
+pub mod SeveralPointsOverP
+-- Compare leaves the sheet as long as it was, so one sheet may be lent to the comparisons at several points one after another.
+pub mod SheetHandedOn
 -- At a point of the field of p compare answers over a larger field what it answers over that of p.
 pub mod SameOverLargerField
 -- For worked examples: one name for the definitions by which two keys are compared. `unfolding comparing` unfolds them all.
@@ -40,5 +46,5 @@ pub mod Examples
 -- what is refused.
 pub mod ExamplesOfGrowth
 -- The agreement bound at two keys of one row bit and one column bit, one cell at the last place against none; and at two keys of unequal
--- shapes, a cell alone against its growth at the last place.
+-- shapes, a cell alone against its growth at the last place; and at two points, with one sheet handed on.
 pub mod BoundAtTwoKeys

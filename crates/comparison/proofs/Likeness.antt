@@ -4,9 +4,11 @@ use mathlib.Core.Bool.{Bool, true, false, cond, and-eq-true-iff, false≢true}
 use mathlib.Core.List.{List, [], _∷_}
 use mathlib.Core.Logic.{_⊎_, inl, inr}
 use mathlib.Core.Path.{_≡_, refl, sym, ap, ap₂, _∙_}
+use native.Mathlib.Decide.{ℕ-discrete}
 use borrow.Author.Tests.{eq-eqb, eqb-true}
 use lib.Dec.{eqb}
-use Rattle.field.specs.Scalars.{Scalars, Lawful}
+use Rattle.field.specs.Scalars.{Scalars, Lawful, prime}
+use Rattle.field.proofs.PrimeLawful.{prime-lawful}
 use Rattle.arrays.specs.Arrays.{Part, A, B, C, valueOf}
 use Rattle.evaluation.specs.Evaluate.{ValuesOf}
 use Rattle.evaluation.specs.Sheet.{wordsOf}
@@ -67,3 +69,15 @@ module _ (𝓢 : Scalars) (𝓛 : Lawful 𝓢) (one other : ValuesOf 𝓢) where
       go : (likeness 𝓢 one other ≡ same) ⊎ (likeness 𝓢 one other ≡ different) → likeness 𝓢 one other ≡ different
       go (inl e) = absurd (d (same-equal e part))
       go (inr e) = e
+
+-- values over p that are not found the same differ in A, in B or in C
+pub some-part : (one other : ValuesOf prime) → (likeness prime one other ≡ same → ⊥) →
+    (part : Part) × (valueOf part one ≡ valueOf part other → ⊥)
+some-part one other differ = go (ℕ-discrete (one .a) (other .a)) (ℕ-discrete (one .b) (other .b)) (ℕ-discrete (one .c) (other .c))
+  where
+    go : Dec (one .a ≡ other .a) → Dec (one .b ≡ other .b) → Dec (one .c ≡ other .c) →
+        (part : Part) × (valueOf part one ≡ valueOf part other → ⊥)
+    go (no a) _ _ = (A, a)
+    go (yes a) (no b) _ = (B, b)
+    go (yes a) (yes b) (no c) = (C, c)
+    go (yes a) (yes b) (yes c) = absurd (differ (all-equal prime prime-lawful one other a b c))
