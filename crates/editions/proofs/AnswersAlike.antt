@@ -1,15 +1,15 @@
--- Evaluate, cell and compare go by what check says of a key and by its arrays alone, and so they answer alike on a key and on its copy in
--- the other edition.
+-- Evaluate, cell, compare and locate go by what check says of a key and by its arrays alone, and so they answer alike on a key and on its
+-- copy in the other edition.
 use Prim.Native.Nat.{ℕ, _+_, _-_}
-use mathlib.Core.List.{List}
+use mathlib.Core.List.{List, _++_}
 use mathlib.Core.Path.{_≡_, sym, ap₂, _∙_}
-use lib.ListN.{length}
+use lib.ListN.{length, take, drop}
 use Rattle.refusal.specs.Outcome.{Outcome, andThen}
 use Rattle.refusal.specs.declared.Which.{Which}
 use Rattle.field.specs.Fp.{fp}
 use Rattle.field.specs.Scalars.{Scalars, prime}
 use Rattle.multilinear.specs.Weight.{bits}
-use Rattle.arrays.specs.Arrays.{Array}
+use Rattle.arrays.specs.Arrays.{Values, Array}
 use Rattle.arrays.specs.Factors.{factorsIn}
 use Rattle.key.specs.Check.{checkedKey}
 use Rattle.key.specs.KeyArrays.{keyArrays}
@@ -18,8 +18,10 @@ use Rattle.judge.specs.Judged.{pointJudged, placeJudged, sheetJudged, pairJudge
 use Rattle.evaluation.specs.Cell.{denseValues, celled}
 use Rattle.evaluation.specs.Evaluate.{ValuesOf, lastOf, valuesAt, Evaluation, concluded, evaluated}
 use Rattle.evaluation.specs.Sheet.{placesOf}
-use Rattle.comparison.specs.Compare.{naming, likeness, compared}
+use Rattle.comparison.specs.AgreementBound.{isSame}
+use Rattle.comparison.specs.Compare.{Comparison, naming, likeness, compared}
 use Rattle.comparison.specs.Filled.{used, unusedWeight, multiplied, filledValues, filledFactors, ownSheet}
+use Rattle.location.specs.Locate.{settled, fromBits, differIn, Location, lastDenseValues, byAnswer, located}
 use Rattle.editions.specs.Move.{movedKey}
 use Rattle.editions.specs.OtherEdition.{Alike}
 use Rattle.editions.proofs.MovedKey.{Movable, moved-accepted, moved-arrays}
@@ -86,17 +88,42 @@ module _ (𝓢 : Scalars) (one other : List ℕ) (checks : checkedKey one ≡ ch
       }))))
       checks arrays
 
-  pub answers-alike : Alike 𝓢 one other
-  answers-alike =
+-- locate's answer and sheet, by what compare answers and leaves and by the values that the keys hold
+abbrev location : (List ℕ → List ℕ → List ℕ → Comparison) → (ℕ → ℕ → Values) → (ℕ → ℕ → Values) → List ℕ → List ℕ → List ℕ → Location
+location comparing first second rows columns sheet =
+    let point = settled (λ at. isSame (comparing (take (length rows) at) (drop (length rows) at) sheet .answer)) (rows ++ columns) in
+    let row = fromBits (take (length rows) point) in
+    let column = fromBits (drop (length rows) point) in
+    byAnswer (comparing rows columns sheet .answer) (comparing rows columns sheet .sheet)
+    (record {
+      answer = differIn row column (first row column) (second row column);
+      sheet = comparing (take (length rows) point) (drop (length rows) point) sheet .sheet;
+    })
+
+module _ (one other : List ℕ) (checks : checkedKey one ≡ checkedKey other) (arrays : keyArrays one ≡ keyArrays other) where
+  locates-first-alike : (second rows columns sheet : List ℕ) → located one second rows columns sheet ≡ located other second rows columns sheet
+  locates-first-alike second rows columns sheet =
+      λ t. location (λ r c s. compares-first-alike prime one other checks arrays second r c s t)
+      (denseValues (arrays t) (lastOf (arrays t))) (lastDenseValues second) rows columns sheet
+
+  locates-second-alike : (first rows columns sheet : List ℕ) → located first one rows columns sheet ≡ located first other rows columns sheet
+  locates-second-alike first rows columns sheet =
+      λ t. location (λ r c s. compares-second-alike prime one other checks arrays first r c s t)
+      (lastDenseValues first) (denseValues (arrays t) (lastOf (arrays t))) rows columns sheet
+
+  pub answers-alike : (𝓢 : Scalars) → Alike 𝓢 one other
+  answers-alike 𝓢 =
       record {
         checks = checks;
-        evaluates = evaluates-alike;
-        cells = cells-alike;
-        compares-first = compares-first-alike;
-        compares-second = compares-second-alike;
+        evaluates = evaluates-alike 𝓢 one other checks arrays;
+        cells = cells-alike 𝓢 one other checks arrays;
+        compares-first = compares-first-alike 𝓢 one other checks arrays;
+        compares-second = compares-second-alike 𝓢 one other checks arrays;
+        locates-first = locates-first-alike;
+        locates-second = locates-second-alike;
       }
 
 -- so they answer on the moved key as on the key
 pub moved-alike : (𝓢 : Scalars) (key : List ℕ) (counts : Counts) → Movable key counts → Alike 𝓢 (movedKey key) key
 moved-alike 𝓢 key counts movable =
-    answers-alike 𝓢 (movedKey key) key (moved-accepted key counts movable ∙ sym (movable .accepted)) (moved-arrays key counts movable)
+    answers-alike (movedKey key) key (moved-accepted key counts movable ∙ sym (movable .accepted)) (moved-arrays key counts movable) 𝓢

@@ -13,6 +13,7 @@ use Rattle.key.specs.Check.{checkedOutcome}
 use Rattle.key.specs.declared.Checked.{Checked}
 use Rattle.evaluate.specs.Answer.{evaluatedOutcome}
 use Rattle.evaluate.specs.declared.Evaluated.{Evaluated}
+use Rattle.evaluate.specs.declared.Values.{Values}
 use Rattle.evaluate.proofs.Answers.{evaluated-injective}
 use Rattle.comparison.specs.AgreementBound.{isSame}
 use Rattle.comparison.specs.Compare.{Answer, same, different, refusedFor, BothLimited}
@@ -21,12 +22,15 @@ use Rattle.compare.specs.declared.Compared.{Compared}
 use Rattle.evaluate_quadratic.specs.Answer.{evaluatedOutcome as quadraticOutcome}
 use Rattle.evaluate_quadratic.specs.declared.Evaluated.{Evaluated as Quadratic}
 use Rattle.evaluate_quadratic.proofs.Answers.{evaluated-injective as quadratic-injective}
+use Rattle.locate.specs.Answer.{locatedAnswer}
+use Rattle.locate.specs.declared.Located.{Located}
 use Rattle.editions.specs.Move.{copiedOutcome}
 use Rattle.editions.specs.declared.Copied.{Copied}
-use Rattle.morgana.specs.Reply.{checkReply, evaluateReply, quadraticReply, keyNumber, compareReply, moveReply}
+use Rattle.morgana.specs.Reply.{checkReply, evaluateReply, quadraticReply, keyNumber, compareReply, locateReply, moveReply}
 use Rattle.morgana.specs.declared.CheckReply.{CheckReply}
 use Rattle.morgana.specs.declared.CompareReply.{CompareReply}
 use Rattle.morgana.specs.declared.EvaluateReply.{EvaluateReply}
+use Rattle.morgana.specs.declared.LocateReply.{LocateReply}
 use Rattle.morgana.specs.declared.MoveReply.{MoveReply}
 use Rattle.morgana.specs.declared.QuadraticReply.{QuadraticReply}
 
@@ -129,6 +133,31 @@ compare-told (Compared.Refused v f) (Compared.Different n) e =
 compare-told (Compared.Refused v f) (Compared.Refused w g) e =
     ap₂ Compared.Refused (which-told v w (ap (λ (x : CompareReply). x .key) e))
     (refusal-told f g (ap (λ (x : CompareReply). x .number) e) (ap (λ (x : CompareReply). x .place) e))
+
+values-told : (v w : Values) → v .a .0 ≡ w .a .0 → v .b .0 ≡ w .b .0 → v .c .0 ≡ w .c .0 → v ≡ w
+values-told v w a b c = λ i. record { a = record { 0 = a i }; b = record { 0 = b i }; c = record { 0 = c i } }
+
+pub locate-told : (r s : Located) → locateReply (locatedAnswer r) ≡ locateReply (locatedAnswer s) → r ≡ s
+locate-told Located.Same Located.Same e = refl
+locate-told Located.Same (Located.Differs cell) e = absurd (omega (arith, ap (λ (x : LocateReply). x .same) e))
+locate-told Located.Same (Located.Refused w g) e = absurd (omega (arith, ap (λ (x : LocateReply). x .same) e))
+locate-told (Located.Differs cell) Located.Same e = absurd (omega (arith, ap (λ (x : LocateReply). x .same) e))
+locate-told (Located.Differs cell) (Located.Differs other) e =
+    let row = ap (λ (x : LocateReply). x .row) e in
+    let column = ap (λ (x : LocateReply). x .column) e in
+    let first = values-told (cell .first) (other .first) (ap (λ (x : LocateReply). x .«first_a») e)
+    (ap (λ (x : LocateReply). x .«first_b») e) (ap (λ (x : LocateReply). x .«first_c») e) in
+    let second = values-told (cell .second) (other .second) (ap (λ (x : LocateReply). x .«second_a») e)
+    (ap (λ (x : LocateReply). x .«second_b») e) (ap (λ (x : LocateReply). x .«second_c») e) in
+    λ i. Located.Differs (record { row = row i; column = column i; first = first i; second = second i })
+locate-told (Located.Differs cell) (Located.Refused w g) e =
+    absurd (number-some (g .reason) (sym (ap (λ (x : LocateReply). x .number) e)))
+locate-told (Located.Refused v f) Located.Same e = absurd (omega (arith, ap (λ (x : LocateReply). x .same) e))
+locate-told (Located.Refused v f) (Located.Differs other) e =
+    absurd (number-some (f .reason) (ap (λ (x : LocateReply). x .number) e))
+locate-told (Located.Refused v f) (Located.Refused w g) e =
+    ap₂ Located.Refused (which-told v w (ap (λ (x : LocateReply). x .key) e))
+    (refusal-told f g (ap (λ (x : LocateReply). x .number) e) (ap (λ (x : LocateReply). x .place) e))
 
 pub same-told : (answer : Answer) (factors : ℕ) → eqb (compareReply answer factors .same) 1 ≡ isSame answer
 unfolding isSame

@@ -8,9 +8,11 @@ use Rattle.quadratic.specs.Quadratic.{quadratic}
 use Rattle.key.specs.declared.Counts.{Counts}
 use Rattle.evaluation.specs.Evaluate.{Counted}
 use Rattle.comparison.specs.Compare.{Answer, same, different, refusedFor}
+use Rattle.location.specs.Locate.{Found, sameThere, differIn, refusedAs}
 use Rattle.morgana.specs.declared.CheckReply.{CheckReply}
 use Rattle.morgana.specs.declared.CompareReply.{CompareReply}
 use Rattle.morgana.specs.declared.EvaluateReply.{EvaluateReply}
+use Rattle.morgana.specs.declared.LocateReply.{LocateReply}
 use Rattle.morgana.specs.declared.MoveReply.{MoveReply}
 use Rattle.morgana.specs.declared.QuadraticReply.{QuadraticReply}
 
@@ -72,6 +74,44 @@ compareReply same factors = record { number = 0; place = 0; key = 0; same = 1; f
 compareReply different factors = record { number = 0; place = 0; key = 0; same = 0; factors = factors }
 compareReply (refusedFor which number place) factors =
     record { number = number; place = place; key = keyNumber which; same = 0; factors = 0 }
+
+-- locate's reply where no cell is answered
+abbrev pub noCell : ℕ → ℕ → ℕ → ℕ → LocateReply
+noCell number place key isSame =
+    record {
+      number = number;
+      place = place;
+      key = key;
+      same = isSame;
+      row = 0;
+      column = 0;
+      «first_a» = 0;
+      «first_b» = 0;
+      «first_c» = 0;
+      «second_a» = 0;
+      «second_b» = 0;
+      «second_c» = 0;
+    }
+
+-- locate's reply: a row, a column, and the values of the first key and of the second there; `same` is 1 exactly where the answer is "same"
+abbrev pub locateReply : Found → LocateReply
+locateReply sameThere = noCell 0 0 0 1
+locateReply (differIn row column one other) =
+    record {
+      number = 0;
+      place = 0;
+      key = 0;
+      same = 0;
+      row = row;
+      column = column;
+      «first_a» = one .a;
+      «first_b» = one .b;
+      «first_c» = one .c;
+      «second_a» = other .a;
+      «second_b» = other .b;
+      «second_c» = other .c;
+    }
+locateReply (refusedAs which number place) = noCell number place (keyNumber which) 0
 
 -- move's reply: the copy's length
 abbrev pub moveReply : Outcome ℕ → MoveReply

@@ -1,7 +1,7 @@
 // The C interface (01, 'The keysheet program and the host'; 02, E2, E9 and E4): check, evaluate, cell and compare over byte slices and
-// slices of 32-bit numbers, evaluate and compare over either field, and the move of a key into the other edition. A reply is a struct of
-// numbers: where nothing is refused its number and place are 0, and where something is, every other field is 0, but for the key that a
-// refused comparison names.
+// slices of 32-bit numbers, evaluate and compare over either field, locate, and the move of a key into the other edition. A reply is a
+// struct of numbers: where nothing is refused its number and place are 0, and where something is, every other field is 0, but for the key
+// that a refused comparison names.
 mod reply;
 
 use key::Checked;
@@ -14,9 +14,11 @@ ghost use Rattle.evaluation.specs.Cell.{celled};
 ghost use Rattle.evaluation.specs.Evaluate.{evaluated};
 ghost use Rattle.comparison.specs.AgreementBound.{Agreement};
 ghost use Rattle.comparison.specs.Compare.{compared, BothLimited};
+ghost use Rattle.location.specs.Cell.{Certain};
+ghost use Rattle.location.specs.Locate.{located};
 ghost use Rattle.editions.specs.Move.{moving};
 ghost use Rattle.editions.specs.OtherEdition.{Moves};
-ghost use Rattle.morgana.specs.Reply.{checkReply, evaluateReply, quadraticReply, compareReply, moveReply};
+ghost use Rattle.morgana.specs.Reply.{checkReply, evaluateReply, quadraticReply, compareReply, locateReply, moveReply};
 ghost use Rattle.morgana.specs.Version.{version};
 
 // The reply to check: an accepted key's counts of arrays, cells and calls, and its row bits and column bits.
@@ -67,6 +69,24 @@ pub struct CompareReply {
     pub factors: u64,
 }
 
+// The reply to locate: the key that a refusal is about, as for compare; 1 for "same"; and where the keys are found different the row and the
+// column of a cell in which they differ, with A, B and C of the first key and of the second there.
+#[repr(C)]
+pub struct LocateReply {
+    pub number: u32,
+    pub place: u64,
+    pub key: u32,
+    pub same: u32,
+    pub row: u32,
+    pub column: u32,
+    pub first_a: u32,
+    pub first_b: u32,
+    pub first_c: u32,
+    pub second_a: u32,
+    pub second_b: u32,
+    pub second_c: u32,
+}
+
 // The reply to move: the copy's length.
 #[repr(C)]
 pub struct MoveReply {
@@ -80,7 +100,7 @@ pub struct MoveReply {
 pub extern "C" fn morgana_version() -> u32
     ensures { λ r. ⌜ r ≡ version ⌝ }
 {
-    5000
+    6000
 }
 
 // Whether bytes are an accepted key: its counts, or the first fault with its place.
@@ -176,6 +196,31 @@ pub extern "C" fn morgana_compare(
     ensures limit { λ r. ⌜ BothLimited (now (first .entry)) (now (second .entry)) (r .factors) ⌝ }
 {
     reply::of_compared(compare::compare(first, second, rows, columns, sheet))
+}
+
+// A cell in which two keys differ, where they are found different at a point; it says "same" and refuses where compare does. The sheet is
+// then as after compare at the bits of the row and of the column, or as compare leaves it where no cell is answered. `certain` says that
+// the keys' dense matrices differ in the answered cell, as for `locate::locate`.
+#[no_mangle]
+pub extern "C" fn morgana_locate(
+    first: &[u8],
+    second: &[u8],
+    rows: &[u32],
+    columns: &[u32],
+    sheet: &mut [u32],
+) -> LocateReply
+    ensures reply { λ r. ⌜
+        r ≡
+        locateReply
+        (located (now (first .entry)) (now (second .entry)) (now (rows .entry)) (now (columns .entry)) (now (sheet .entry)) .answer) ⌝ }
+    ensures sheet { λ _. ⌜
+        now (sheet .exit) ≡
+        located (now (first .entry)) (now (second .entry)) (now (rows .entry)) (now (columns .entry)) (now (sheet .entry)) .sheet ⌝ }
+    ensures certain { λ _. ⌜
+        Certain (now (first .entry)) (now (second .entry))
+        (located (now (first .entry)) (now (second .entry)) (now (rows .entry)) (now (columns .entry)) (now (sheet .entry)) .answer) ⌝ }
+{
+    reply::of_located(locate::locate(first, second, rows, columns, sheet))
 }
 
 // The last array's A, B and C at a point of the field of p² elements, two numbers a coordinate, u first, and every array's on the sheet,

@@ -1,11 +1,13 @@
 // Replies to answers.
 use crate::CompareReply;
 use crate::EvaluateReply;
+use crate::LocateReply;
 use crate::MoveReply;
 use crate::QuadraticReply;
 use compare::Compared;
 use editions::Copied;
 use evaluate::Evaluated;
+use locate::Located;
 use refusal::Refusal;
 use refusal::Which;
 ghost use mathlib.Core.Path.{_≡_};
@@ -13,8 +15,9 @@ ghost use Rattle.refusal.specs.Number.{numberOf};
 ghost use Rattle.evaluate.specs.Answer.{evaluatedOutcome};
 ghost use Rattle.compare.specs.Answer.{comparedAnswer, comparedFactors};
 ghost use Rattle.evaluate_quadratic.specs.Answer.{evaluatedOutcome as evaluatedQuadratic};
+ghost use Rattle.locate.specs.Answer.{locatedAnswer};
 ghost use Rattle.editions.specs.Move.{copiedOutcome};
-ghost use Rattle.morgana.specs.Reply.{evaluateReply, quadraticReply, compareReply, keyNumber, moveReply};
+ghost use Rattle.morgana.specs.Reply.{evaluateReply, quadraticReply, compareReply, noCell, locateReply, keyNumber, moveReply};
 
 // The reply for an answer of evaluate or cell.
 pub(crate) fn of_evaluated(answer: Evaluated) -> EvaluateReply
@@ -96,6 +99,53 @@ pub(crate) fn of_compared(answer: Compared) -> CompareReply
             same: 0,
             factors: 0,
         },
+    }
+}
+
+// The reply for an answer of locate.
+pub(crate) fn of_located(answer: Located) -> LocateReply
+    ensures { λ r. ⌜ r ≡ locateReply (locatedAnswer answer) ⌝ }
+{
+    match answer {
+        Located::Same => no_cell(0, 0, 0, 1),
+        Located::Differs(cell) => LocateReply {
+            number: 0,
+            place: 0,
+            key: 0,
+            same: 0,
+            row: cell.row,
+            column: cell.column,
+            first_a: cell.first.a.value(),
+            first_b: cell.first.b.value(),
+            first_c: cell.first.c.value(),
+            second_a: cell.second.a.value(),
+            second_b: cell.second.b.value(),
+            second_c: cell.second.c.value(),
+        },
+        Located::Refused(which, refusal) => {
+            let key = key_number(which);
+            no_cell(number(refusal), refusal.place as u64, key, 0)
+        }
+    }
+}
+
+// The reply of locate where no cell is answered.
+fn no_cell(number: u32, place: u64, key: u32, same: u32) -> LocateReply
+    ensures { λ r. ⌜ r ≡ noCell number place key same ⌝ }
+{
+    LocateReply {
+        number: number,
+        place: place,
+        key: key,
+        same: same,
+        row: 0,
+        column: 0,
+        first_a: 0,
+        first_b: 0,
+        first_c: 0,
+        second_a: 0,
+        second_b: 0,
+        second_c: 0,
     }
 }
 

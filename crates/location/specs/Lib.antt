@@ -1,0 +1,3 @@
+pub mod Locate
+pub mod Cell
+pub mod Inner

@@ -1,0 +1,1 @@
+// What locate answers, and the laws about it. The code is crate locate.
