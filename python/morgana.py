@@ -1,5 +1,5 @@
 """Morgana circuit keys: checked, evaluated at a point, asked for single cells,
-compared, and moved into the other edition.
+compared, with a cell that differs, and moved into the other edition.
 
 The module calls the proved library libmorgana.so by ctypes. Its calls are
 those of morgana.h. A key is bytes, in any object that has the buffer protocol
@@ -58,6 +58,20 @@ So each key is evaluated at the first n and the first n' coordinates, by its own
 head, and its A, B and C are multiplied by 1 - r for each coordinate r that it
 does not use. These are what is compared; a sheet has what was evaluated, not
 multiplied.
+
+Differences. At a point where two keys are different, locate answers a cell of
+the dense matrices in which they are, and both keys' A, B and C there. At a
+point where they are the same it answers None. `wrong` has 15 for the 14 of
+`new`:
+
+>>> wrong = new.replace(b"\x0e", b"\x0f")
+>>> found = morgana.locate(old, wrong, [3], [4])
+>>> found.row, found.column
+(0, 1)
+>>> found.first.b, found.second.b
+(14, 15)
+>>> found.first == morgana.cell(old, found.row, found.column)
+True
 
 Factors. These answers count the factors of the weights that a key's cells and
 calls have, one for each coordinate: k + k' for a cell of an array of k row and
@@ -119,12 +133,13 @@ import secrets
 import typing
 
 __all__ = [
-    "check", "evaluate", "cell", "compare", "evaluate_quadratic", "compare_quadratic", "moved",
-    "version", "random_point", "likelihood", "Counts", "Values", "Quadratic", "Compared", "Refused",
-    "Number", "P", "KEY_LIMIT", "MOST_ARRAYS", "MOST_BITS", "SHEET", "SHEET_QUADRATIC", "FOLDER",
+    "check", "evaluate", "cell", "compare", "locate", "evaluate_quadratic", "compare_quadratic",
+    "moved", "version", "random_point", "likelihood", "Counts", "Values", "Quadratic", "Compared",
+    "DifferingCell", "Refused", "Number", "P", "KEY_LIMIT", "MOST_ARRAYS", "MOST_BITS", "SHEET",
+    "SHEET_QUADRATIC", "FOLDER",
 ]
 
-__version__ = "0.5.0"
+__version__ = "0.6.0"
 
 # The folder of the installed library; empty in a module that is not installed.
 FOLDER = ""
@@ -242,14 +257,26 @@ class Quadratic(typing.NamedTuple):
 class Values:
     """A, B and C of a key's last array: numbers below p, or over p*p a
     Quadratic each; and how many factors the weights of the key's cells and
-    calls have, one for each coordinate. Two are equal where A, B and C are,
-    whatever the keys' counts.
+    calls have, one for each coordinate, or None in what locate answers, which
+    counts none. Two are equal where A, B and C are, whatever the keys' counts.
     """
 
     a: int | Quadratic
     b: int | Quadratic
     c: int | Quadratic
-    factors: int = dataclasses.field(compare=False)
+    factors: int | None = dataclasses.field(default=None, compare=False)
+
+
+class DifferingCell(typing.NamedTuple):
+    """A cell in which the dense matrices of two keys' last arrays differ, in A,
+    in B or in C: its row and its column, and the Values of the first key and of
+    the second there. They are zero beyond a key's own 2^n rows and 2^n' columns.
+    """
+
+    row: int
+    column: int
+    first: Values
+    second: Values
 
 
 @_answer
@@ -278,11 +305,13 @@ def _reply(name, *fields, last=None):
 
 
 _SIX = "a_u", "a_v", "b_u", "b_v", "c_u", "c_v"
+_BOTH = "first_a", "first_b", "first_c", "second_a", "second_b", "second_c"
 
 _CheckReply = _reply("_CheckReply", "arrays", "cells", "calls", "rows", "columns")
 _EvaluateReply = _reply("_EvaluateReply", "a", "b", "c", last="factors")
 _QuadraticReply = _reply("_QuadraticReply", *_SIX, last="factors")
 _CompareReply = _reply("_CompareReply", "key", "same", last="factors")
+_LocateReply = _reply("_LocateReply", "key", "same", "row", "column", *_BOTH)
 _MoveReply = _reply("_MoveReply", last="length")
 
 _KEY = (ctypes.c_char_p, ctypes.c_size_t)
@@ -297,6 +326,7 @@ _FUNCTIONS = {
     "morgana_evaluate": (_EvaluateReply, _KEY + 3 * _NUMBERS),
     "morgana_cell": (_EvaluateReply, _KEY + _PLACE + _NUMBERS),
     "morgana_compare": (_CompareReply, 2 * _KEY + 3 * _NUMBERS),
+    "morgana_locate": (_LocateReply, 2 * _KEY + 3 * _NUMBERS),
     "morgana_evaluate_quadratic": (_QuadraticReply, _KEY + 3 * _NUMBERS),
     "morgana_compare_quadratic": (_CompareReply, 2 * _KEY + 3 * _NUMBERS),
     "morgana_move": (_MoveReply, _KEY + _BUFFER),
@@ -310,7 +340,7 @@ def _chosen():
 
 
 def _version_text(number):
-    """The version that one number stands for, as 0.5.0."""
+    """The version that one number stands for, as 0.6.0."""
     return f"{number // 1_000_000}.{number // 1_000 % 1_000}.{number % 1_000}"
 
 
@@ -407,6 +437,15 @@ def _compared(reply):
     return Compared(same=reply.same == 1, factors=reply.factors)
 
 
+def _located(reply):
+    """The cell that a reply gives, or None where it says that the keys are the same."""
+    if reply.same == 1:
+        return None
+    first = Values(a=reply.first_a, b=reply.first_b, c=reply.first_c)
+    second = Values(a=reply.second_a, b=reply.second_b, c=reply.second_c)
+    return DifferingCell(reply.row, reply.column, first, second)
+
+
 def version():
     """The library's version as one number: 1,000,000 for each major, 1,000 for
     each minor and 1 for each patch version.
@@ -465,6 +504,25 @@ def compare(first, second, rows, columns, sheet=None):
     function = _library.morgana_compare
     reply = _accepted(_at_point(function, [first, second], rows, columns, sheet, SHEET))
     return _compared(reply)
+
+
+def locate(first, second, rows, columns, sheet=None):
+    """Answers a cell in which two keys differ, as a DifferingCell, where they
+    are different at a point, as compare takes it; None where they are the same
+    there. That the answered cell differs is certain. Cells before it may differ
+    too. The sheet is then as after compare at the point, or, where a cell is
+    answered, at the point of the bits of its row and of its column, lowest
+    first.
+
+    The keys are compared at the point, and then once for each of its
+    coordinates, from the first of the rows to the last of the columns: it is
+    set to 0, or to 1 where the keys are the same with 0, and kept so.
+
+    Refuses as compare does.
+    """
+    function = _library.morgana_locate
+    reply = _accepted(_at_point(function, [first, second], rows, columns, sheet, SHEET))
+    return _located(reply)
 
 
 def evaluate_quadratic(key, rows, columns, sheet=None):

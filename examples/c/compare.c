@@ -1,7 +1,8 @@
 /* compare FIRST SECOND: compares two key files, of any shapes, at a random
- * point over p*p. Prints `same`, `different` or `refused N at P`, with the key
- * at fault behind it. The status is 0, 1 or 2, and 3 where anything else is
- * wrong. Compile it with the shared or with the static library:
+ * point over p*p. Prints `same`, `different` with a cell in which the keys
+ * differ, or `refused N at P`, with the key at fault behind it. The status is
+ * 0, 1 or 2, and 3 where anything else is wrong. Compile it with the shared or
+ * with the static library:
  *
  *   cc compare.c -o compare $(pkg-config --cflags --libs morgana)
  *   cc compare.c -o compare $(pkg-config --cflags morgana) \
@@ -42,6 +43,28 @@ static size_t larger(size_t one, size_t other)
     return one > other ? one : other;
 }
 
+/* Keeps the u of some coordinates u + v*i, and answers how many there are. */
+static size_t keep_u(uint32_t *numbers, size_t length)
+{
+    for (size_t i = 0; 2 * i < length; i++)
+        numbers[i] = numbers[2 * i];
+    return length / 2;
+}
+
+/* Prints the cell that morgana_locate names. It takes a point over p, and at
+ * the u of a random point keys that differ are found the same less than once in
+ * 35 million times; then nothing is printed. */
+static void print_cell(MorganaLocateReply cell)
+{
+    if (cell.same)
+        return;
+    printf("at row %" PRIu32 ", column %" PRIu32 "\n", cell.row, cell.column);
+    printf("first A %" PRIu32 " B %" PRIu32 " C %" PRIu32 "\n", cell.first_a,
+           cell.first_b, cell.first_c);
+    printf("second A %" PRIu32 " B %" PRIu32 " C %" PRIu32 "\n", cell.second_a,
+           cell.second_b, cell.second_c);
+}
+
 int main(int argc, char **argv)
 {
     static const char *const at_fault[] = {"", "; first key", "; second key"};
@@ -67,11 +90,19 @@ int main(int argc, char **argv)
         first, first_length, second, second_length, rows, rows_length,
         columns, columns_length, sheet, MORGANA_SHEET_QUADRATIC);
 
-    if (reply.number == MORGANA_NOT_REFUSED)
-        puts(reply.same ? "same" : "different");
-    else
+    if (reply.number != MORGANA_NOT_REFUSED) {
         printf("refused %" PRIu32 " at %" PRIu64 "%s\n", reply.number,
                reply.place, at_fault[reply.key]);
+    } else if (reply.same) {
+        puts("same");
+    } else {
+        puts("different");
+        rows_length = keep_u(rows, rows_length);
+        columns_length = keep_u(columns, columns_length);
+        print_cell(morgana_locate(first, first_length, second, second_length,
+                                  rows, rows_length, columns, columns_length,
+                                  sheet, MORGANA_SHEET));
+    }
     if (fflush(stdout) != 0 || ferror(stdout))
         err(3, "standard output");
     return reply.number == MORGANA_NOT_REFUSED ? !reply.same : 2;

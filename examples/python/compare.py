@@ -3,8 +3,8 @@
     python3 compare.py OLD NEW
 
 Prints `same`, with a bound on how likely keys that differ would pass, or
-`different`, or the refusal. The status is 0 for same, 1 for different, 2 for a
-refusal, and 3 for anything else.
+`different`, with a cell in which they do, or the refusal. The status is 0 for
+same, 1 for different, 2 for a refusal, and 3 for anything else.
 """
 
 import decimal
@@ -35,12 +35,31 @@ def checked(key, which):
         raise morgana.Refused(refusal.number, refusal.place, which) from None
 
 
+def differing_cell(old, new, rows, columns):
+    """A cell in which two keys differ that are different at a point over p*p.
+
+    A coordinate u + v*i is u + v*t at t = i, where the keys' difference is not
+    zero. In t it is a polynomial of degree m at most, so that it has no more
+    than m zeros, and one of t = 0, 1, .., m gives a point over p for locate.
+    """
+    for t in range(len(rows + columns) // 2 + 1):
+        sides = (zip(side[::2], side[1::2]) for side in (rows, columns))
+        point = ([(u + v * t) % morgana.P for u, v in side] for side in sides)
+        cell = morgana.locate(old, new, *point)
+        if cell is not None:
+            return cell
+
+
 def compare(old, new):
     """Prints what is found of two keys, and returns the status."""
     bits = checked(old, 1).larger_shape(checked(new, 2))
     rows, columns = morgana.random_point(*bits, quadratic=True)
     if not morgana.compare_quadratic(old, new, rows, columns).same:
+        cell = differing_cell(old, new, rows, columns)
         print("different")
+        print(f"row {cell.row}, column {cell.column}")
+        for name, values in (("first", cell.first), ("second", cell.second)):
+            print(f"{name} A {values.a} B {values.b} C {values.c}")
         return 1
     bound = morgana.likelihood(sum(bits), quadratic=True)
     number = UPWARDS.divide(bound.numerator, bound.denominator)

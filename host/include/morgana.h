@@ -1,5 +1,5 @@
 /* Morgana circuit keys: checked, evaluated at a point, asked for single cells,
- * compared, and moved into the other edition.
+ * compared, asked where they differ, and moved into the other edition.
  *
  * Link with libmorgana, on Linux on x86-64. The header can be included from C
  * (C99 and later) and from C++ (C++11 and later). Whatever numbers and slices a
@@ -43,7 +43,8 @@
  * the first n' coordinates, by its own head, and its A, B and C are multiplied
  * by 1 - r for each coordinate r that it does not use. These are what is
  * compared; the sheet has what was evaluated, not multiplied. Keys of one shape
- * use all coordinates.
+ * use all coordinates. All of this holds for morgana_locate too, which compares
+ * and, where the keys are different, names a cell in which they differ.
  *
  * Sheets. A call needs three places of its sheet, over p*p six, for each array
  * of the key. Where it compares two keys, it needs them for each array of the
@@ -64,7 +65,8 @@
  * keys are compared, it is the sum of both keys' counts and, for each key, of
  * the coordinates that it does not use, (N - n) + (N' - n') of them; it comes
  * with "same" and with "different", and is at most
- * (N + N') * (cells + calls of both keys) + 2 * (N + N').
+ * (N + N') * (cells + calls of both keys) + 2 * (N + N'). morgana_locate counts
+ * none.
  *
  * Refusals. `number` says what is at fault: it is one of MorganaNumber, which
  * lists the numbers by who is at fault. `place` says where, and the number says
@@ -91,7 +93,7 @@ extern "C" {
 
 /* The version that this header belongs to, and all of it as one number. */
 #define MORGANA_VERSION_MAJOR 0
-#define MORGANA_VERSION_MINOR 5
+#define MORGANA_VERSION_MINOR 6
 #define MORGANA_VERSION_PATCH 0
 #define MORGANA_VERSION                                                        \
     (1000000 * MORGANA_VERSION_MAJOR + 1000 * MORGANA_VERSION_MINOR +          \
@@ -116,8 +118,8 @@ extern "C" {
 /* The bytes of stack that suffice for every call: measured, not proved. A call
  * is a chain of a few frames of fixed size, the deepest that of
  * morgana_compare_quadratic, without recursion, so that no key makes it deeper.
- * What the loader needs where it binds the C library's memset during the call
- * is counted; what signal handlers need on the same stack is not. */
+ * What the loader needs where it binds the C library's memset and memcpy during
+ * the call is counted; what signal handlers need on the same stack is not. */
 #define MORGANA_STACK 20480
 
 /* The numbers of refusals, by who is at fault: the condition under which alone
@@ -227,6 +229,22 @@ typedef struct MorganaCompareReply {
     uint64_t factors; /* the count of factors of both; 0 where it is refused */
 } MorganaCompareReply;
 
+/* What morgana_locate answers. */
+typedef struct MorganaLocateReply {
+    uint32_t number;   /* the number of the refusal, or 0 */
+    uint64_t place;    /* the place of the refusal, or 0 */
+    uint32_t key;      /* the key at fault: 1 first, 2 second, 0 neither */
+    uint32_t same;     /* 1 for "same", and then all that follows is 0 */
+    uint32_t row;      /* the row of a cell in which the keys differ */
+    uint32_t column;   /* its column */
+    uint32_t first_a;  /* the first key's A there; 0 beyond its own shape */
+    uint32_t first_b;  /* its B */
+    uint32_t first_c;  /* its C */
+    uint32_t second_a; /* the second key's A there; 0 beyond its own shape */
+    uint32_t second_b; /* its B */
+    uint32_t second_c; /* its C */
+} MorganaLocateReply;
+
 /* What morgana_move answers. */
 typedef struct MorganaMoveReply {
     uint32_t number; /* the number of the refusal, or 0 */
@@ -275,6 +293,24 @@ MorganaCompareReply morgana_compare(const uint8_t *first, size_t first_length,
                                     const uint32_t *columns,
                                     size_t columns_length,
                                     uint32_t *sheet, size_t sheet_length);
+
+/* Compares two keys at a point as morgana_compare does. Where they are "same"
+ * there, it answers that, and the sheet is as morgana_compare leaves it. Where
+ * they are "different", it answers the row and the column of a cell in which
+ * they differ, and the dense A, B and C of both last arrays in that cell, zero
+ * beyond a key's own 2^n rows and 2^n' columns: at least one of the three
+ * differs. The cell is found from the point by N + N' further comparisons. The
+ * coordinates are gone through once, rows first: each is set to 0, and where
+ * the keys are "same" at the point so changed, to 1. Then the point is the bits
+ * of row and column, lowest first. Cells before this one may differ too. The
+ * sheet is then as after morgana_compare at that point. Refuses as
+ * morgana_compare does. */
+MorganaLocateReply morgana_locate(const uint8_t *first, size_t first_length,
+                                  const uint8_t *second, size_t second_length,
+                                  const uint32_t *rows, size_t rows_length,
+                                  const uint32_t *columns,
+                                  size_t columns_length,
+                                  uint32_t *sheet, size_t sheet_length);
 
 /* Answers the last array's A, B and C at a point of two numbers a coordinate
  * and the count of factors, and writes every array's six numbers into the

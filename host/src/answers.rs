@@ -98,3 +98,35 @@ pub struct Compared {
     /// (N + N')·(cells + calls of both) + 2·(N + N').
     pub factors: u64,
 }
+
+/// What locate answers about two keys at a point. Later versions may add answers.
+///
+/// ```compile_fail
+/// match morgana::locate(&[], &[], &[], &[], &mut [])? {
+///     morgana::Located::Same => {}
+///     morgana::Located::Differs(_) => {}
+/// }
+/// # Ok::<(), morgana::CompareRefusal>(())
+/// ```
+#[derive(Debug, Clone, Copy, PartialEq, Eq)]
+#[non_exhaustive]
+pub enum Located {
+    /// The keys have the same A, the same B and the same C at the point, as compare says. They may differ elsewhere.
+    Same,
+    /// The keys are different, and differ in this cell.
+    Differs(DifferingCell),
+}
+
+/// A cell in which the dense matrices of two keys differ, each read as filled with zeros up to the larger shape: of A, B
+/// and C at least one differs.
+#[derive(Debug, Clone, Copy, PartialEq, Eq)]
+pub struct DifferingCell {
+    /// Its row, below 2^N.
+    pub row: u32,
+    /// Its column, below 2^N'.
+    pub column: u32,
+    /// The first key's values there; zero beyond its own 2^n rows and 2^n' columns.
+    pub first: Values,
+    /// The second key's values there; zero beyond its own.
+    pub second: Values,
+}

@@ -1,7 +1,8 @@
 //! The calls of the library as safe functions: all unsafe code of this package's library stands here.
 #![allow(unsafe_code)]
 
-use crate::answers::{Compared, Counts, Evaluated, Quadratic, QuadraticValues, Values};
+use crate::answers::{Compared, Counts, DifferingCell, Evaluated, Located};
+use crate::answers::{Quadratic, QuadraticValues, Values};
 use crate::constants::INTERFACE;
 use crate::raw;
 use crate::refusal::{CompareRefusal, Refusal, Which};
@@ -146,6 +147,58 @@ pub fn compare(
     })
 }
 
+/// Compares two keys at a point as [`compare`] does, and answers "same" or a cell in which they differ, with both keys'
+/// dense A, B and C there, [zero beyond a key's own shape](crate#comparing); or refuses as compare does.
+///
+/// At least one of A, B and C differs in the cell. It is found from the point by N + N' further comparisons: the
+/// coordinates are gone through once, rows first, and each is set to 0, or to 1 where the keys are the same at the point
+/// with 0. Cells before it may differ too, and another point may lead to another cell. The sheet is then as after compare
+/// at the bits of the row and of the column, lowest first; where the answer is "same", as after compare at the point.
+///
+/// ```
+/// use morgana::{DifferingCell, Located, Values};
+///
+/// let old = [
+///     1, 1, 0, // head: one row bit
+///     2, 1, 0, // a sparse array of that shape
+///     4, 1, 0, 0, 0, 0, 0, 0, 0, 5, 0, 0, 0, 7, 0, 0, 0, 0, 0, 0, 0, // a cell: row 1, column 0, A 5, B 7, C 0
+///     6, // end
+/// ];
+/// let mut new = old;
+/// new[19] = 8; // B
+///
+/// let (first, second) = (Values { a: 5, b: 7, c: 0 }, Values { a: 5, b: 8, c: 0 });
+/// let cell = DifferingCell { row: 1, column: 0, first, second };
+/// assert_eq!(morgana::locate(&old, &new, &[3], &[], &mut [0; 3])?, Located::Differs(cell));
+/// assert_eq!(morgana::locate(&old, &old, &[3], &[], &mut [0; 3])?, Located::Same);
+/// # Ok::<(), morgana::CompareRefusal>(())
+/// ```
+pub fn locate(
+    first: &[u8],
+    second: &[u8],
+    rows: &[u32],
+    columns: &[u32],
+    sheet: &mut [u32],
+) -> Result<Located, CompareRefusal> {
+    same_interface();
+    // SAFETY: each pointer and length are of one slice, lent until the call returns, and the sheet, lent for
+    // writing, overlaps no other; replies are of this interface.
+    located(unsafe {
+        raw::morgana_locate(
+            first.as_ptr(),
+            first.len(),
+            second.as_ptr(),
+            second.len(),
+            rows.as_ptr(),
+            rows.len(),
+            columns.as_ptr(),
+            columns.len(),
+            sheet.as_mut_ptr(),
+            sheet.len(),
+        )
+    })
+}
+
 /// Answers the last array's A, B and C at a point whose coordinates u + v·i are two numbers each, u first, and the count
 /// of factors, and writes array i's six numbers into the sheet at 6i; or refuses as evaluate does, with 21 and 22 where
 /// there are not 2n and 2n' numbers, and with 23 at the index of a number.
@@ -251,15 +304,25 @@ pub fn moved(key: &[u8], buffer: &mut [u8]) -> Result<usize, Refusal> {
 
 /// What a reply says of two keys, or its refusal.
 fn compared(reply: raw::CompareReply) -> Result<Compared, CompareRefusal> {
-    let which = match reply.key {
-        1 => Which::First,
-        2 => Which::Second,
-        _ => Which::Neither,
-    };
-    refused(reply.number, reply.place).map_err(|refusal| CompareRefusal { which, refusal })?;
+    refused_of_two(reply.number, reply.place, reply.key)?;
     Ok(Compared {
         same: reply.same == 1,
         factors: reply.factors,
+    })
+}
+
+/// The cell of a reply in which two keys differ, or that they are the same, or its refusal.
+fn located(reply: raw::LocateReply) -> Result<Located, CompareRefusal> {
+    refused_of_two(reply.number, reply.place, reply.key)?;
+    let values = |a, b, c| Values { a, b, c };
+    Ok(match reply.same {
+        1 => Located::Same,
+        _ => Located::Differs(DifferingCell {
+            row: reply.row,
+            column: reply.column,
+            first: values(reply.first_a, reply.first_b, reply.first_c),
+            second: values(reply.second_a, reply.second_b, reply.second_c),
+        }),
     })
 }
 
@@ -273,6 +336,16 @@ fn evaluated(reply: raw::EvaluateReply) -> Result<Evaluated<Values>, Refusal> {
     };
     let factors = reply.factors;
     Ok(Evaluated { values, factors })
+}
+
+/// The refusal of a reply about two keys, if it has one, with the key that it names.
+fn refused_of_two(number: u32, place: u64, key: u32) -> Result<(), CompareRefusal> {
+    let which = match key {
+        1 => Which::First,
+        2 => Which::Second,
+        _ => Which::Neither,
+    };
+    refused(number, place).map_err(|refusal| CompareRefusal { which, refusal })
 }
 
 /// The refusal of a reply, if it has one: 0 is the number of no refusal.

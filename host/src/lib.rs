@@ -1,5 +1,5 @@
-//! Morgana circuit keys: checked, evaluated at a point, asked for single cells, compared, and moved into the other
-//! edition.
+//! Morgana circuit keys: checked, evaluated at a point, asked for single cells, compared, asked where they differ, and
+//! moved into the other edition.
 //!
 //! The functions are safe Rust over the library `libmorgana.a`, whose calls are proved to answer
 //! rightly for every input; this package around it is tested. None takes memory from the heap or
@@ -47,6 +47,9 @@
 //! are multiplied by 1 - r for each coordinate r that it does not use. These are what is compared;
 //! the sheet has what was evaluated, not multiplied. Keys of one shape use all coordinates.
 //!
+//! [`locate`] compares two keys in the same way, and where they are different it answers a cell in
+//! which they differ, with the values of both.
+//!
 //! # Sheets
 //!
 //! A sheet is a slice that every array's values are written into: array i's A, B and C at 3i,
@@ -64,7 +67,7 @@
 //! counts one. The records of all arrays count, whether they are called or not, and the point plays no part. So the
 //! count is at most (n + n')·(cells + calls), of what [`check`] answers. Compare answers the sum of both keys' counts
 //! and, for each key, of the coordinates that it does not use, (N - n) + (N' - n') of them, with "same" and with
-//! "different": at most (N + N')·(cells + calls of both keys) + 2·(N + N').
+//! "different": at most (N + N')·(cells + calls of both keys) + 2·(N + N'). Locate counts none.
 //!
 //! # Editions
 //!
@@ -90,8 +93,9 @@ mod random;
 pub mod raw;
 mod refusal;
 
-pub use answers::{Compared, Counts, Evaluated, Quadratic, QuadraticValues, Values};
-pub use calls::{cell, check, compare, compare_quadratic, evaluate, evaluate_quadratic};
+pub use answers::{Compared, Counts, DifferingCell, Evaluated, Located};
+pub use answers::{Quadratic, QuadraticValues, Values};
+pub use calls::{cell, check, compare, compare_quadratic, evaluate, evaluate_quadratic, locate};
 pub use calls::{moved, version};
 pub use constants::{KEY_LIMIT, MOST_ARRAYS, MOST_BITS, P, SHEET, SHEET_QUADRATIC, STACK, VERSION};
 pub use field::Field;

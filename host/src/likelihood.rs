@@ -14,9 +14,11 @@ const LEAST: f64 = -38.0;
 ///
 /// With m = N + N', the larger row bits and the larger column bits of the two keys, and a field of
 /// q elements it is (1 - ((q - 1) / q)^m)^points. For one point this is the proved agreement bound,
-/// (q^m - (q - 1)^m) / q^m. It holds where each point is as likely as any other, independent of
-/// those before and of both keys: as [`RandomPoints`](crate::RandomPoints) draws them once both
-/// keys are fixed.
+/// (q^m - (q - 1)^m) / q^m. For several points it is the proved bound too (law `several` in
+/// `crates/comparison/proofs/SeveralPoints.antt`): keys that differ in a cell are found the same at
+/// every point of at most (q^m - (q - 1)^m)^points of all (q^m)^points lists of so many points. What
+/// it takes is that each point is as likely as any other, independent of those before and of both
+/// keys: as [`RandomPoints`](crate::RandomPoints) draws them once both keys are fixed.
 ///
 /// It prints as two digits and a power of ten, rounded upwards and never below `1.0e-38`, since
 /// the machine is no surer than that; and as `0` where m is 0 and it is exactly 0.

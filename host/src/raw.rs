@@ -86,6 +86,36 @@ pub struct CompareReply {
     pub factors: u64,
 }
 
+/// What `morgana_locate` answers.
+#[repr(C)]
+#[derive(Debug, Clone, Copy, PartialEq, Eq)]
+pub struct LocateReply {
+    /// The number of the refusal; 0 where nothing is refused.
+    pub number: u32,
+    /// The place of the refusal; 0 where nothing is refused.
+    pub place: u64,
+    /// The key at fault: 1 the first, 2 the second, 0 neither.
+    pub key: u32,
+    /// 1 where the answer is "same", and then every field behind it is 0; else 0.
+    pub same: u32,
+    /// The row of a cell in which the keys differ.
+    pub row: u32,
+    /// Its column.
+    pub column: u32,
+    /// The first key's A there.
+    pub first_a: u32,
+    /// The first key's B there.
+    pub first_b: u32,
+    /// The first key's C there.
+    pub first_c: u32,
+    /// The second key's A there.
+    pub second_a: u32,
+    /// The second key's B there.
+    pub second_b: u32,
+    /// The second key's C there.
+    pub second_c: u32,
+}
+
 /// What `morgana_move` answers.
 #[repr(C)]
 #[derive(Debug, Clone, Copy, PartialEq, Eq)]
@@ -142,6 +172,22 @@ const _: () = {
 };
 
 const _: () = {
+    assert!(size_of::<LocateReply>() == 56);
+    assert!(offset_of!(LocateReply, number) == 0);
+    assert!(offset_of!(LocateReply, place) == 8);
+    assert!(offset_of!(LocateReply, key) == 16);
+    assert!(offset_of!(LocateReply, same) == 20);
+    assert!(offset_of!(LocateReply, row) == 24);
+    assert!(offset_of!(LocateReply, column) == 28);
+    assert!(offset_of!(LocateReply, first_a) == 32);
+    assert!(offset_of!(LocateReply, first_b) == 36);
+    assert!(offset_of!(LocateReply, first_c) == 40);
+    assert!(offset_of!(LocateReply, second_a) == 44);
+    assert!(offset_of!(LocateReply, second_b) == 48);
+    assert!(offset_of!(LocateReply, second_c) == 52);
+};
+
+const _: () = {
     assert!(size_of::<MoveReply>() == 24);
     assert!(offset_of!(MoveReply, number) == 0);
     assert!(offset_of!(MoveReply, place) == 8);
@@ -190,6 +236,20 @@ extern "C" {
         sheet: *mut u32,
         sheet_length: usize,
     ) -> CompareReply;
+
+    /// Compares two keys at a point, and names a cell in which they differ where they are different there.
+    pub fn morgana_locate(
+        first: *const u8,
+        first_length: usize,
+        second: *const u8,
+        second_length: usize,
+        rows: *const u32,
+        rows_length: usize,
+        columns: *const u32,
+        columns_length: usize,
+        sheet: *mut u32,
+        sheet_length: usize,
+    ) -> LocateReply;
 
     /// Evaluates a key at a point of two numbers a coordinate and writes the six numbers of every array into the sheet.
     pub fn morgana_evaluate_quadratic(

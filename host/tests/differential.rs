@@ -10,13 +10,15 @@ mod lent;
 
 #[path = "differential/held.rs"]
 mod held;
+#[path = "differential/located.rs"]
+mod located;
 #[path = "differential/moved.rs"]
 mod moved;
 #[path = "differential/relation.rs"]
 mod relation;
 
 use archive::Served;
-use cases::{outcomes, run};
+use cases::{outcomes, run, Case};
 use generator::damage::{damaged, mostly_damaged};
 use generator::grown::{larger, pair};
 use generator::inputs::{address, sheet, short_sheet, Drawn, Point};
@@ -29,6 +31,7 @@ use held::{cell_case, check_case, compare_case, evaluate_case};
 use independent::edition;
 use independent::field::{Field, Fp, Quadratic};
 use independent::record::{bytes, Record};
+use located::locate_case;
 use moved::move_case;
 use relation::relation;
 
@@ -109,43 +112,57 @@ fn compare_quadratic_agrees() {
 }
 
 fn compare_agrees_over<F: Served + Drawn>() {
+    two_keys_agree::<F>(
+        &format!("compare{}", F::SUFFIX),
+        25_000,
+        &["same", "same at zero", "different"],
+        compare_case::<F>,
+    );
+}
+
+/// Locate: "same", the cell or the refusal and the key it names, and the sheet.
+#[test]
+fn locate_agrees() {
+    two_keys_agree::<Fp>("locate", 6_000, &["same", "different"], locate_case);
+}
+
+/// One case of a call that takes two keys.
+type OfTwo = fn(&mut Random, &[Vec<u8>; 2], &Point, &[u32]) -> Case;
+
+/// Runs so many cases of a call that takes two keys, whose answers have these names.
+fn two_keys_agree<F: Drawn>(name: &str, usual: u64, answers: &[&str], one: OfTwo) {
     let numbers = [
         ("first", 1..=13),
         ("second", 1..=13),
         ("neither", 21..=23),
         ("neither", 31..=31),
     ];
-    let found = |word| relation::ALL.map(|relation| format!("{word}{relation}"));
-    let named = ["same", "same at zero", "different"].map(found).concat();
+    let found = |word: &&str| relation::ALL.map(|relation| format!("{word}{relation}"));
+    let named: Vec<_> = answers.iter().flat_map(found).collect();
     let named: Vec<&str> = named.iter().map(String::as_str).collect();
-    run(
-        &format!("compare{}", F::SUFFIX),
-        25_000,
-        &outcomes(&named, &numbers),
-        |random| {
-            let [first, second] = pair(random);
-            let keys = [mostly_whole(random, &first), mostly_whole(random, &second)];
-            let bits = match random.below(12) {
-                // Those of one of the keys, which the other may pass.
-                0 => shape(&first),
-                1 => shape(&second),
-                _ => larger(&first, &second),
-            };
-            let point = mostly_fitting_point::<F>(random, bits);
-            let arrays = [arrays(&first), arrays(&second)];
-            let sheet = if random.chance(6) {
-                // Long enough for one of the keys at most.
-                sheet::<F>(random, arrays[0].min(arrays[1]))
-            } else {
-                mostly_long_sheet::<F>(random, arrays[0].max(arrays[1]))
-            };
-            let mut case = compare_case::<F>(random, &keys, &point, &sheet);
-            if named.contains(&case.outcome.as_str()) {
-                case.outcome += relation(&keys);
-            }
-            case
-        },
-    );
+    run(name, usual, &outcomes(&named, &numbers), |random| {
+        let [first, second] = pair(random);
+        let keys = [mostly_whole(random, &first), mostly_whole(random, &second)];
+        let bits = match random.below(12) {
+            // Those of one of the keys, which the other may pass.
+            0 => shape(&first),
+            1 => shape(&second),
+            _ => larger(&first, &second),
+        };
+        let point = mostly_fitting_point::<F>(random, bits);
+        let arrays = [arrays(&first), arrays(&second)];
+        let sheet = if random.chance(6) {
+            // Long enough for one of the keys at most.
+            sheet::<F>(random, arrays[0].min(arrays[1]))
+        } else {
+            mostly_long_sheet::<F>(random, arrays[0].max(arrays[1]))
+        };
+        let mut case = one(random, &keys, &point, &sheet);
+        if named.contains(&case.outcome.as_str()) {
+            case.outcome += relation(&keys);
+        }
+        case
+    });
 }
 
 /// The move: the copy's length or the refusal, and the buffer.

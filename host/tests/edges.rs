@@ -20,6 +20,8 @@ mod full;
 mod grown;
 #[path = "edges/inputs.rs"]
 mod inputs;
+#[path = "edges/located.rs"]
+mod located;
 #[path = "edges/moves.rs"]
 mod moves;
 #[path = "edges/quadratics.rs"]

@@ -44,6 +44,20 @@ LAYOUT(MorganaCompareReply, key, 16);
 LAYOUT(MorganaCompareReply, same, 20);
 LAYOUT(MorganaCompareReply, factors, 24);
 
+_Static_assert(sizeof(MorganaLocateReply) == 56, "size of MorganaLocateReply");
+LAYOUT(MorganaLocateReply, number, 0);
+LAYOUT(MorganaLocateReply, place, 8);
+LAYOUT(MorganaLocateReply, key, 16);
+LAYOUT(MorganaLocateReply, same, 20);
+LAYOUT(MorganaLocateReply, row, 24);
+LAYOUT(MorganaLocateReply, column, 28);
+LAYOUT(MorganaLocateReply, first_a, 32);
+LAYOUT(MorganaLocateReply, first_b, 36);
+LAYOUT(MorganaLocateReply, first_c, 40);
+LAYOUT(MorganaLocateReply, second_a, 44);
+LAYOUT(MorganaLocateReply, second_b, 48);
+LAYOUT(MorganaLocateReply, second_c, 52);
+
 _Static_assert(sizeof(MorganaMoveReply) == 24, "size of MorganaMoveReply");
 LAYOUT(MorganaMoveReply, number, 0);
 LAYOUT(MorganaMoveReply, place, 8);
@@ -103,6 +117,22 @@ static void compared(int line, MorganaCompareReply got, MorganaCompareReply want
     want(line, "key", wanted.key, got.key);
     want(line, "same", wanted.same, got.same);
     want(line, "factors", wanted.factors, got.factors);
+}
+
+static void located(int line, MorganaLocateReply got, MorganaLocateReply wanted)
+{
+    want(line, "number", wanted.number, got.number);
+    want(line, "place", wanted.place, got.place);
+    want(line, "key", wanted.key, got.key);
+    want(line, "same", wanted.same, got.same);
+    want(line, "row", wanted.row, got.row);
+    want(line, "column", wanted.column, got.column);
+    want(line, "first_a", wanted.first_a, got.first_a);
+    want(line, "first_b", wanted.first_b, got.first_b);
+    want(line, "first_c", wanted.first_c, got.first_c);
+    want(line, "second_a", wanted.second_a, got.second_a);
+    want(line, "second_b", wanted.second_b, got.second_b);
+    want(line, "second_c", wanted.second_c, got.second_c);
 }
 
 static void moved(int line, MorganaMoveReply got, MorganaMoveReply wanted)
@@ -176,6 +206,8 @@ static void copied(int line, size_t count, const uint8_t *bytes)
     (fresh(), quadratic(__LINE__, call, (MorganaQuadraticReply){__VA_ARGS__}))
 #define COMPARED(call, ...) \
     (fresh(), compared(__LINE__, call, (MorganaCompareReply){__VA_ARGS__}))
+#define LOCATED(call, ...) \
+    (fresh(), located(__LINE__, call, (MorganaLocateReply){__VA_ARGS__}))
 #define MOVED(call, ...) \
     (fresh_bytes(), moved(__LINE__, call, (MorganaMoveReply){__VA_ARGS__}))
 #define REFUSED(name, at) .number = (name), .place = (at)
@@ -345,6 +377,11 @@ static void arrays_limit(void)
     EVALUATED(morgana_evaluate(key, length, ON(MORGANA_SHEET - 1)),
               REFUSED(MORGANA_SHEET_TOO_SHORT, MORGANA_SHEET));
     COMPARED(morgana_compare(key, length, key, length, ON(MORGANA_SHEET)), 0, 0, 0, 1, 0);
+    LOCATED(morgana_locate(key, length, key, length, ON(MORGANA_SHEET)), .same = 1);
+    LOCATED(morgana_locate(key, length, single, sizeof single, ON(MORGANA_SHEET)),
+            .second_a = 1, .second_b = 2, .second_c = 3);
+    LOCATED(morgana_locate(single, sizeof single, key, length, ON(MORGANA_SHEET - 1)),
+            REFUSED(MORGANA_SHEET_TOO_SHORT, MORGANA_SHEET));
     QUADRATIC(morgana_evaluate_quadratic(key, length, ON(MORGANA_SHEET_QUADRATIC)),
               0, 0, 0, 0, 0, 0, 0, 0, 0);
     QUADRATIC(morgana_evaluate_quadratic(key, length, ON(MORGANA_SHEET_QUADRATIC - 1)),
@@ -537,6 +574,66 @@ static void compare_calls(void)
     UNTOUCHED();
 }
 
+static void locate_calls(void)
+{
+    uint8_t other[LENGTH];
+    memcpy(other, sample, LENGTH);
+    other[15] = 6;
+#define LOCATE(first, first_length, second, second_length, rows, rows_length, columns, \
+               columns_length, length, ...) \
+    LOCATED(morgana_locate(first, first_length, second, second_length, rows, rows_length, \
+                           columns, columns_length, sheet, length), __VA_ARGS__)
+    LOCATE(sample, LENGTH, negated, sizeof negated, three, 1, four, 1, PLACES, .same = 1);
+    SHEET(20, 28, 0, 2147483567, 2147483535, 0);
+    LOCATE(single, sizeof single, grown, sizeof grown, three, 1, four, 1, PLACES, .same = 1);
+    SHEET(6, 12, 18);
+    /* They differ in row 0 and column 1, where the sample has 10 and 14: then the sheet has the last
+     * key's numbers there. */
+    LOCATE(sample, LENGTH, other, LENGTH, three, 1, four, 1, 6, 0, 0, 0, 0, 0, 1, 10, 14, 0, 12, 14, 0);
+    SHEET(6, 7, 0, 12, 14, 0);
+    LOCATE(other, LENGTH, scaled, SCALED_LENGTH, three, 1, four, 1, PLACES,
+           0, 0, 0, 0, 0, 1, 12, 14, 0, 10, 14, 0);
+    SHEET(5, 7, 0, 10, 14, 0);
+    LOCATE(sample, LENGTH, empty, sizeof empty, three, 1, four, 1, PLACES,
+           0, 0, 0, 0, 0, 1, 10, 14, 0, 0, 0, 0);
+    SHEET(0, 0, 0, 10, 14, 0);
+    /* `single` has one place, and zeros beyond it. */
+    LOCATE(grown, sizeof grown, displaced, sizeof displaced, three, 1, four, 1, PLACES,
+           0, 0, 0, 0, 0, 0, 1, 2, 3, 0, 0, 0);
+    SHEET(0, 0, 0);
+    LOCATE(empty, sizeof empty, displaced, sizeof displaced, three, 1, four, 1, PLACES,
+           0, 0, 0, 0, 1, 0, 0, 0, 0, 1, 2, 3);
+    SHEET(1, 2, 3);
+    uint8_t alone[sizeof single];
+    memcpy(alone, single, sizeof single);
+    memset(alone + 15, 0, 12);
+    LOCATE(displaced, sizeof displaced, alone, sizeof alone, three, 1, four, 1, PLACES,
+           0, 0, 0, 0, 1, 0, 1, 2, 3, 0, 0, 0);
+    SHEET(0, 0, 0);
+    LOCATE(single, sizeof single, alone, sizeof alone, NULL, 0, NULL, 0, PLACES,
+           0, 0, 0, 0, 0, 0, 1, 2, 3, 0, 0, 0);
+    SHEET(0, 0, 0);
+    LOCATE(single, sizeof single, single, sizeof single, NULL, 0, NULL, 0, 3, .same = 1);
+    SHEET(1, 2, 3);
+    LOCATE(unknown, 1, NULL, 0, NULL, 0, NULL, 0, 0, REFUSED(MORGANA_KIND_UNKNOWN, 0), .key = 1);
+    UNTOUCHED();
+    LOCATE(sample, LENGTH, sample, 52, NULL, 0, NULL, 0, 0,
+           REFUSED(MORGANA_RECORD_INCOMPLETE, 52), .key = 2);
+    UNTOUCHED();
+    LOCATE(sample, LENGTH, single, sizeof single, NULL, 0, NULL, 0, 0,
+           REFUSED(MORGANA_ROW_COUNT_WRONG, 0));
+    UNTOUCHED();
+    LOCATE(single, sizeof single, sample, LENGTH, prime, 1, NULL, 0, 0,
+           REFUSED(MORGANA_COLUMN_COUNT_WRONG, 0));
+    UNTOUCHED();
+    LOCATE(single, sizeof single, sample, LENGTH, three, 1, prime, 1, 0,
+           REFUSED(MORGANA_COORDINATE_TOO_GREAT, 1));
+    UNTOUCHED();
+    LOCATE(single, sizeof single, sample, LENGTH, three, 1, four, 1, 5,
+           REFUSED(MORGANA_SHEET_TOO_SHORT, 6));
+    UNTOUCHED();
+}
+
 static void evaluate_quadratic_calls(void)
 {
 #define EVALUATE(key, key_length, rows, rows_length, columns, columns_length, length, ...) \
@@ -689,6 +786,7 @@ int main(void)
     evaluate_calls();
     cell_calls();
     compare_calls();
+    locate_calls();
     evaluate_quadratic_calls();
     compare_quadratic_calls();
     move_calls();

@@ -1,7 +1,8 @@
 //! The safe functions give each field of the library's replies its name.
 
-use morgana::{cell, check, compare, compare_quadratic, evaluate, evaluate_quadratic, moved};
-use morgana::{CompareRefusal, Compared, Refusal, Which, P};
+use morgana::{cell, check, compare, compare_quadratic, evaluate, evaluate_quadratic};
+use morgana::{locate, moved, CompareRefusal, Compared, Refusal, Which, P};
+use morgana::{DifferingCell, Located, Values};
 use morgana::{KEY_LIMIT, MOST_ARRAYS, MOST_BITS, SHEET, SHEET_QUADRATIC, VERSION};
 
 /// The key of the keysheet example.
@@ -131,6 +132,37 @@ fn compare_answers_and_leaves_the_second_key_over_the_first() {
 }
 
 #[test]
+fn locate_answers_the_cell_and_leaves_the_second_key_over_the_first() {
+    let mut sheet = LENT;
+    let same = locate(&SAMPLE, &SAMPLE, &[3], &[4], &mut sheet);
+    assert_eq!(same, Ok(Located::Same));
+    assert_eq!(sheet, [20, 28, 0, 2147483567, 2147483535, 0, 107, 108]);
+    // A cell in row 1 alone, with another number for each part.
+    let mut low = [&[1, 1, 1, 2, 1, 1, 4][..], &[0; 20], &[6]].concat();
+    [low[7], low[15], low[19], low[23]] = [1, 2, 3, 4];
+    let values = |a, b, c| Values { a, b, c };
+    let of = |row, column, first, second| {
+        Ok(Located::Differs(DifferingCell {
+            row,
+            column,
+            first,
+            second,
+        }))
+    };
+    let (zero, triple) = (values(0, 0, 0), values(2, 3, 4));
+    let mut sheet = LENT;
+    let answer = locate(&low, &EMPTY, &[3], &[4], &mut sheet);
+    assert_eq!(answer, of(1, 0, triple, zero));
+    assert_eq!(sheet, [0, 0, 0, 104, 105, 106, 107, 108]);
+    let answer = locate(&EMPTY, &low, &[3], &[4], &mut sheet);
+    assert_eq!(answer, of(1, 0, zero, triple));
+    assert_eq!(sheet, [2, 3, 4, 104, 105, 106, 107, 108]);
+    let answer = locate(&SAMPLE, &low, &[3], &[4], &mut sheet);
+    assert_eq!(answer, of(0, 1, values(10, 14, 0), zero));
+    assert_eq!(sheet, [0, 0, 0, 10, 14, 0, 107, 108]);
+}
+
+#[test]
 fn both_parts_have_their_names() {
     let mut sheet = [9; 13];
     let answer = evaluate_quadratic(&SAMPLE, &[3, 1], &[4, 2], &mut sheet).expect("it fits");
@@ -187,6 +219,11 @@ fn a_refused_call_leaves_the_sheet() {
         assert_eq!(answer.err().map(told), Some(wanted));
         let answer = compare(&SAMPLE, &EMPTY, rows, columns, sheet);
         assert_eq!(compared(answer), neither(wanted));
+        let refused = locate(&SAMPLE, &EMPTY, rows, columns, sheet).expect_err("it is refused");
+        assert_eq!(
+            (refused.which, told(refused.refusal)),
+            (Which::Neither, wanted)
+        );
     }
     let cell_of =
         |row, column, sheet: &mut [u32]| cell(&SAMPLE, row, column, sheet).err().map(told);
@@ -206,6 +243,8 @@ fn compare_names_the_key_at_fault() {
     ] {
         let answer = compare(first, second, &[3], &[4], &mut [0; 6]);
         assert_eq!(compared(answer), Err((which, wanted)));
+        let refused = locate(first, second, &[3], &[4], &mut [0; 6]).expect_err("it is refused");
+        assert_eq!((refused.which, told(refused.refusal)), (which, wanted));
     }
 }
 

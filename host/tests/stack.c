@@ -291,6 +291,14 @@ static void compare_quadratic(void)
     got = (Got){reply.number, reply.factors};
 }
 
+static void locate(void)
+{
+    MorganaLocateReply reply =
+        morgana_locate(first->bytes, first->length, second->bytes, second->length, rows,
+                       rows_length, columns, columns_length, sheet, sheet_length);
+    got = (Got){reply.number, 0};
+}
+
 /* The bytes of stack that a call needs. */
 typedef struct Need {
     size_t at_first, again;
@@ -306,7 +314,9 @@ typedef struct Call {
     const Key *first, *second;
 } Call;
 
-enum { CHECK, CELL, MOVE, EVALUATE, EVALUATE_QUADRATIC, COMPARE, COMPARE_QUADRATIC, CALLS };
+enum {
+    CHECK, CELL, MOVE, EVALUATE, EVALUATE_QUADRATIC, COMPARE, COMPARE_QUADRATIC, LOCATE, CALLS
+};
 static Call all[CALLS] = {
     {.name = "morgana_check", .run = check, .numbers = 1},
     {.name = "morgana_cell", .run = cell, .numbers = 1, .counted = 1},
@@ -315,6 +325,7 @@ static Call all[CALLS] = {
     {.name = "morgana_evaluate_quadratic", .run = evaluate_quadratic, .numbers = 2, .counted = 1},
     {.name = "morgana_compare", .run = compare, .numbers = 1, .counted = 2},
     {.name = "morgana_compare_quadratic", .run = compare_quadratic, .numbers = 2, .counted = 2},
+    {.name = "morgana_locate", .run = locate, .numbers = 1},
 };
 
 /* Ends the program where something is not as wanted. */
@@ -388,7 +399,7 @@ static uint64_t factors_of(const Call *call, uint32_t number)
     uint64_t other = call->counted > 1 ? second->factors : 0;
     uint64_t unused = unequal(first->row_bits, second->row_bits) +
                       unequal(first->column_bits, second->column_bits);
-    return number != 0 ? 0 : one + other + unused;
+    return number != 0 ? 0 : one + other + (call->counted > 1 ? unused : 0);
 }
 
 /* Wants a call to give the number and the count of factors and to keep to the stack, and counts
@@ -448,7 +459,7 @@ static void hold_key(const Key *key)
     }
 }
 
-/* Both calls that compare, on two keys. */
+/* The calls that compare, on two keys. */
 static void hold_pair(const Key *one, const Key *other)
 {
     first = one;

@@ -10,6 +10,7 @@ from tests.draw.numbers import numbered
 from tests.model.calls import arithmetic, cell, check, compare, evaluate, move, put, take, written
 from tests.model.fields import PRIME
 from tests.model.keys import read
+from tests.model.locate import locate
 from tests.model.records import LAYOUT, Refusal
 from tests.model.words import agreed, key, listed, outcome, words
 
@@ -27,6 +28,7 @@ OPERATIONS = {
     "evaluate_quadratic": 11,
     "compare_quadratic": 12,
     "move": 13,
+    "locate": 14,
 }
 
 
@@ -160,6 +162,19 @@ class Cases:
         counts = (len(rows), len(columns), len(sheet))
         call = f"compare{field.suffix}"
         self.add_pair(call, (first, second), keys, behind, answer, counts, [*rows, *columns, *sheet])
+
+    def locate(self, first, second, rows, columns, wanted=None, sheet=None, known=None):
+        """A difference of two keys in words, located at a point. `wanted` is what is said, or which key is refused and how,
+        where it is known without the model, with the sheet afterwards or without; `known` is both, of keys that are too large
+        to unroll.
+        """
+        keys = key(first), key(second)
+        sheet = lent(PRIME, *keys) if sheet is None else sheet
+        answer = known or locate(*keys, rows, columns, sheet)
+        agreed(wanted, answer if wanted and " sheet" in wanted else answer.partition(" sheet")[0])
+        behind = f" at rows {listed(rows)} columns {listed(columns)} on sheet {listed(sheet)}"
+        counts = (len(rows), len(columns), len(sheet))
+        self.add_pair("locate", (first, second), keys, behind, answer, counts, [*rows, *columns, *sheet])
 
     def count(self, first, second, bits, values, said, name):
         """Comparisons of two keys in words at every point of so many row and column coordinates that are among the values,

@@ -16,6 +16,7 @@ from .editions.sweep import edition_cases
 from .evaluations import evaluation_cases
 from .factors import factor_cases, quadratic_factor_cases
 from .grown.sweep import grown_cases, quadratic_grown_cases
+from .locations import location_cases
 from .quadratic.sweep import quadratic_cases
 from .records import put_cases, take_cases
 from .refusals import refusal_cases
@@ -38,6 +39,7 @@ def public_cases():
     edition_cases(cases, draw)
     factor_cases(cases, draw)
     grown_cases(cases, draw)
+    location_cases(cases, draw)
     return cases
 
 

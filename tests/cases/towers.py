@@ -11,9 +11,12 @@ The weight of a call has one coordinate where its level adds a bit, and none els
 has as many factors as calls at levels that add a bit.
 """
 
-from tests.model.dense import numbers_of
+from tests.draw.changes import added_to
+from tests.draw.keys import encoded
+from tests.model.dense import bits_of, numbers_of
 from tests.model.fields import P, PRIME
-from tests.model.words import joined, times, words
+from tests.model.records import records_in
+from tests.model.words import joined, key, key_words, times, words
 
 
 def shapes(levels):
@@ -87,3 +90,27 @@ def drawn_levels(draw, count, most):
         positions = 1 if axis is None else 2
         levels.append((axis, [1 + draw.below(most) for _ in range(positions)]))
     return levels
+
+
+class WithCell:
+    """A tower, and a key of so many row and column bits more whose matrices are the tower's with values added in one cell."""
+
+    def __init__(self, values, levels, more=(0, 0)):
+        self.values, self.levels, self.more = values, levels, more
+        self.own = shapes(levels)[-1]
+        self.bits = tuple(n + k for n, k in zip(self.own, more, strict=True))
+        self.tower = tower(values, levels)
+
+    def added(self, place, values):
+        """The key in words that has these values added in the cell at a place."""
+        records, _ = records_in(key(self.tower))
+        return key_words(encoded(added_to(records, self.more, [(*place, *values)])))
+
+    def triples(self, place):
+        """A, B and C of each array of the tower at as many low bits of a place as the tower has."""
+        return tower_values(self.values, self.levels, [*map(bits_of, place, self.own)])
+
+    def at(self, place):
+        """A, B and C of the tower in a cell, zero beyond its own shape."""
+        within = all(x < 2**n for x, n in zip(place, self.own, strict=True))
+        return self.triples(place)[-1] if within else (0, 0, 0)

@@ -41,7 +41,7 @@ def names():
     sources = glob.glob("crates/**/*.antt", recursive=True) + glob.glob("crates/**/*.rt", recursive=True)
     known = set(re.findall(r"[\w'-]+", "\n".join(map(text_of, sources + ["host/include/morgana.h"]))))
     # Commands, and words of the languages.
-    others = {"make", "test", "rt", "version", "main", "memset", "getrandom", "secrets", "cc", "rustc"}
+    others = {"make", "test", "rt", "version", "main", "memset", "memcpy", "getrandom", "secrets", "cc", "rustc"}
     used = {word for name in re.findall(r"`([^`]+)`", text_of("docs/TRUST.md")) for word in re.findall(r"[\w'-]+", name)}
     if used - known - others:
         raise Failed(f"docs/TRUST.md names what is not there: {sorted(used - known - others)}")

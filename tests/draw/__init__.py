@@ -3,5 +3,6 @@ damaged.
 
 numbers  numbers, factors, and points, places and sheets of numbers
 keys     keys of few arrays, and keys of many calls
-changes  keys made of another: damaged ones, one that is nearly the same, ones of the same circuit, and larger ones
+changes  keys made of another: damaged ones, one that is nearly the same, ones of the same circuit, larger ones, and ones with
+         cells added
 """

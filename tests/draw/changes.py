@@ -1,4 +1,6 @@
-"""What is made of a drawn key: damaged ones, one that is nearly the same, ones of the same circuit, and larger ones."""
+"""What is made of a drawn key: damaged ones, one that is nearly the same, ones of the same circuit, larger ones, and ones with
+cells added.
+"""
 
 import itertools
 import operator
@@ -7,7 +9,7 @@ from tests.model.fields import P, TOP
 from tests.model.keys import CALLS, larger
 
 from .keys import drawn_cell, encoded
-from .numbers import drawn_factor
+from .numbers import drawn_factor, drawn_place
 
 
 def raised(draw, records):
@@ -170,3 +172,20 @@ def grown(records, more, position=(0, 0), factor=1):
     called = sum(each in ("sparse", "recursive") for each, _ in others) - 1
     fields = (called, *position) if name == "head" else (called, *position, factor)
     return [(name, bits), *others, ("recursive", bits), (CALLS[name], fields), end]
+
+
+def added_to(records, more, cells):
+    """The records of a key of the same edition and so many row and column bits more, whose matrices are this key's, in the
+    first places, with cells added: the row, the column and the values of each.
+    """
+    (name, bits), *others, _, call, end = grown(records, more)
+    called, *rest = call[1]
+    added = [("sparse", bits), *(("cell", fields) for fields in cells)]
+    return [(name, bits), *others, *added, ("recursive", bits), call, (CALLS[name], (called + 1, *rest)), end]
+
+
+def with_cells(draw, records, more, count):
+    """The records of such a key with so many cells added anywhere, of values 0, 1, 2 and p - 1."""
+    bits = [n + k for n, k in zip(records[0][1], more, strict=True)]
+    values = ([(0, 1, 2, P - 1)[draw.below(4)] for _ in range(3)] for _ in range(count))
+    return added_to(records, more, [(*drawn_place(draw, bits), *each) for each in values])

@@ -11,4 +11,5 @@ factors  how many factors the weights of a key's records have
 pairs    two keys of any shapes: the coordinates that each does not use, and what they multiply its values by
 words    keys, numbers and answers in words
 calls    what each call answers
+locate   a cell in which two keys differ
 """

@@ -11,6 +11,10 @@ points     those of coordinates, rows and columns
 sheets     those of sheets
 moves      those of keys moved into the other edition
 shapes     those of two keys of different shapes
+locations  those of a cell in which two keys differ
+towers     a cell in which keys differ that nobody unrolls
+location_refusals
+           what refuses to locate a difference
 factors    those of the count of factors
 answers    what answers and refusals are, and how the module describes itself
 chances    random points, and the likelihood that keys that differ pass

@@ -8,13 +8,13 @@ line and ends with status 0, or prints the first fault and ends with status 1.
 
 import sys
 
-from . import agreement, answers, chances, drawn, example, factors, keys, loading, moves, points
-from . import shapes, sheets, threads
+from . import agreement, answers, chances, drawn, example, factors, keys, loading, location_refusals
+from . import locations, moves, points, shapes, sheets, threads, towers
 from .holding import Failed, Hold
 
 PARTS = (
-    agreement, answers, keys, points, sheets, moves, shapes, factors, chances, threads, loading,
-    example,
+    agreement, answers, keys, points, sheets, moves, shapes, locations, towers, location_refusals,
+    factors, chances, threads, loading, example,
 )
 
 

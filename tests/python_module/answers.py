@@ -13,7 +13,7 @@ from .subject import morgana
 
 P = morgana.P
 COUNTS = {"arrays": 2, "cells": 1, "calls": 2, "rows": 1, "columns": 1}
-EXAMPLES = 22
+EXAMPLES = 27
 
 
 def hold_answers(hold):
@@ -59,7 +59,7 @@ def hold_refusals(hold):
     )
     for call, arguments, text in cases:
         hold.equal("a refusal", text, str(hold.raises(text, morgana.Refused, call, *arguments)))
-    for call in (morgana.compare, morgana.compare_quadratic):
+    for call in (morgana.compare, morgana.locate, morgana.compare_quadratic):
         first = hold.refused("first", 2, 30, call, samples.CUT, samples.CUT, [], [], key=1)
         hold.equal("first", "refused 2 at 30: record missing or cut off; first key", str(first))
         second = hold.refused("second", 2, 30, call, samples.OLD, samples.CUT, [], [], key=2)

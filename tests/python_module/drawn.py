@@ -3,15 +3,17 @@ the module and by tests/model.
 """
 
 import collections
+import functools
 import itertools
 import re
 
-from tests.draw.changes import damaged, grown, in_other_edition, nearly, rewritten
+from tests.draw.changes import damaged, grown, in_other_edition, nearly, rewritten, with_cells
 from tests.draw.keys import drawn_key, encoded, many_calls
 from tests.draw.numbers import Draw, drawn_edges, drawn_place, drawn_point, numbered, spoiled
 from tests.model import calls as model
 from tests.model.editions import moved
 from tests.model.fields import PRIME, QUADRATIC
+from tests.model.locate import locate, located
 from tests.model.pairs import most_bits
 from tests.model.records import Refusal
 from tests.model.words import accepted, counted, outcome, refused
@@ -21,6 +23,7 @@ from .holding import Failed, hold_equal
 from .subject import morgana
 
 KEYS = 200
+LOCATED = 500
 LEAST = 5
 POINTS = 4
 KEY_FAULTS = range(1, 14)
@@ -30,6 +33,7 @@ OUTCOMES = {
     "evaluate": ("accepted", *KEY_FAULTS, 21, 22, 23, 31),
     "cell": ("accepted", *KEY_FAULTS, 24, 31),
     "compare": (*COMPARED, *KEY_FAULTS),
+    "locate": (*COMPARED, *KEY_FAULTS),
     "evaluate_quadratic": ("accepted", *KEY_FAULTS, 21, 22, 23, 31),
     "compare_quadratic": (*COMPARED, *KEY_FAULTS),
     "moved": ("accepted", *KEY_FAULTS, 55, 56),
@@ -38,6 +42,8 @@ OUTCOMES = {
 # more columns.
 SHAPES = "equal", "rows", "columns", "both", "crossed"
 WHICH = {1: "first ", 2: "second ", None: "neither "}
+# How the names of the calls on two keys begin.
+OF_TWO = "compare", "locate"
 
 
 def numbers_of(value):
@@ -53,6 +59,11 @@ def in_words(answer):
         return accepted(answer.arrays, answer.cells, answer.calls, answer.rows, answer.columns)
     if isinstance(answer, morgana.Compared):
         return counted("same" if answer.same else "different", answer.factors)
+    if answer is None:
+        return "same"
+    if isinstance(answer, morgana.DifferingCell):
+        both = ((each.a, each.b, each.c) for each in (answer.first, answer.second))
+        return located(answer.row, answer.column, both)
     numbers = (str(x) for value in (answer.a, answer.b, answer.c) for x in numbers_of(value))
     return counted(" ".join(numbers), answer.factors)
 
@@ -62,14 +73,14 @@ def answered(name, *arguments):
     try:
         return in_words(getattr(morgana, name)(*arguments))
     except morgana.Refused as refusal:
-        which = WHICH[refusal.key] if name.startswith("compare") else ""
+        which = WHICH[refusal.key] if name.startswith(OF_TWO) else ""
         return which + refused(int(refusal.number), refusal.place)
 
 
 def kind_of(words):
     """The number of a refusal in words, or the kind of the answer."""
     number = re.match(r"(?:first |second |neither )?refused (\d+) ", words)
-    said = words.split(" factors")[0]
+    said = words.split(" ")[0]
     return int(number[1]) if number else said if said in ("same", "different") else "accepted"
 
 
@@ -162,24 +173,25 @@ class Sweep:
         wanted = model.evaluate(data, *point, sheet, field=field)
         self.hold(f"evaluate{field.suffix}", wanted, [data], point, sheet)
 
-    def hold_pair(self, pair, field):
-        """Compares two keys, each its bytes and its head's bits, in either order, at a point that has
-        the larger bits or, one time in eight, those of one of them.
+    def hold_pair(self, pair, name, by_model, field):
+        """Makes a call on two keys, each its bytes and its head's bits, in either order, at a point that
+        has the larger bits or, one time in eight, those of one of them.
         """
         keys, heads = zip(*pair[:: 1 - 2 * self.draw.below(2)])
         bits = (*heads, *[most_bits(*heads)] * 14)[self.draw.below(16)]
         point = any_point(self.draw, field.counts(bits))
         sheet = numbered(self.draw.below(18 * field.size))
-        wanted = model.compare(*keys, *point, sheet, field=field)
-        self.hold(f"compare{field.suffix}", wanted, list(keys), point, sheet)
+        wanted = by_model(*keys, *point, sheet)
+        self.hold(name, wanted, list(keys), point, sheet)
         kind = kind_of(wanted.split(" sheet")[0])
         if kind not in KEY_FAULTS:
             # A damaged key that is accepted may have other bits than the key that was drawn.
-            self.shapes[differing(*((data[1], data[2]) for data in keys)), kind] += 1
+            shapes = differing(*((data[1], data[2]) for data in keys))
+            self.shapes[name.removesuffix("_quadratic"), shapes, kind] += 1
 
     def hold_key(self, records, field):
         """Compares one drawn key, whole and damaged, with what is made of it, and two of those."""
-        draw = self.draw
+        draw, compare = self.draw, functools.partial(model.compare, field=field)
         others = [(encoded(each), each[0][1]) for each in compared(draw, records)]
         whole, bits = others[0]
         for data in (whole, *damaged(draw, records), *beyond(draw, records)):
@@ -187,7 +199,21 @@ class Sweep:
             for _ in range(POINTS):
                 self.hold_point(data, bits, field)
                 one, other = (others[draw.below(len(others))] for _ in range(2))
-                self.hold_pair([(data, bits) if draw.below(3) else one, other], field)
+                pair = [(data, bits) if draw.below(3) else one, other]
+                self.hold_pair(pair, f"compare{field.suffix}", compare, field)
+
+    def hold_location(self, records):
+        """Locates a difference of one drawn key, whole and damaged, from what is made of it, with cells
+        added and without.
+        """
+        draw = self.draw
+        more = ((draw.below(3), draw.below(3)) for _ in range(12))
+        added = (with_cells(draw, records, each, 1 + draw.below(3)) for each in more)
+        others = [(encoded(each), each[0][1]) for each in (*compared(draw, records), *added)]
+        whole, bits = others[0]
+        for data in (whole, *damaged(draw, records), *beyond(draw, records)):
+            one, other = (others[draw.below(len(others))] for _ in range(2))
+            self.hold_pair([(data, bits) if draw.below(3) else one, other], "locate", locate, PRIME)
 
 
 def hold_all():
@@ -196,8 +222,10 @@ def hold_all():
     for field in (PRIME, QUADRATIC):
         for _ in range(KEYS):
             sweep.hold_key(drawn_key(sweep.draw, 4, sweep.draw.below(2)), field)
+    for _ in range(LOCATED):
+        sweep.hold_location(drawn_key(sweep.draw, 4, sweep.draw.below(2)))
     hold_often({(name, kind) for name, kinds in OUTCOMES.items() for kind in kinds}, sweep.counts)
-    hold_often(set(itertools.product(SHAPES, COMPARED)), sweep.shapes)
+    hold_often(set(itertools.product(OF_TWO, SHAPES, COMPARED)), sweep.shapes)
     return sweep.counts.total()
 
 

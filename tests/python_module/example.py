@@ -24,12 +24,21 @@ FILES = {
     "displaced": samples.DISPLACED,
 }
 BOUND = "keys that differ would pass with probability at most"
+NONE = "A 0 B 0 C 0"
+
+
+def differing(row, column, first, second):
+    """What is printed of keys that differ in a cell."""
+    return f"different\nrow {row}, column {column}\nfirst {first}\nsecond {second}\n"
+
+
 CASES = (
     ("old new", 0, f"same\n{BOUND} 4.4e-19\n"),
     ("new old", 0, f"same\n{BOUND} 4.4e-19\n"),
     ("greatest greatest", 0, f"same\n{BOUND} 1.4e-17\n"),
     ("shortest shortest", 0, f"same\n{BOUND} 0\n"),
-    ("old wrong", 1, "different\n"),
+    ("old wrong", 1, differing(0, 1, "A 10 B 14 C 0", "A 10 B 15 C 0")),
+    ("wrong old", 1, differing(0, 1, "A 10 B 15 C 0", "A 10 B 14 C 0")),
     ("cut new", 2, "refused 2 at 30: record missing or cut off; first key\n"),
     ("old cut", 2, "refused 2 at 30: record missing or cut off; second key\n"),
     ("empty cut", 2, "refused 2 at 0: record missing or cut off; first key\n"),
@@ -37,10 +46,10 @@ CASES = (
     ("old tall", 0, f"same\n{BOUND} 6.6e-19\n"),
     ("wide old", 0, f"same\n{BOUND} 8.7e-19\n"),
     ("wide tall", 0, f"same\n{BOUND} 1.1e-18\n"),
-    ("displaced old", 1, "different\n"),
-    ("old displaced", 1, "different\n"),
-    ("shortest old", 1, "different\n"),
-    ("greatest shortest", 1, "different\n"),
+    ("displaced old", 1, differing(0, 1, NONE, "A 10 B 14 C 0")),
+    ("old displaced", 1, differing(0, 1, "A 10 B 14 C 0", NONE)),
+    ("shortest old", 1, differing(0, 1, NONE, "A 10 B 14 C 0")),
+    ("greatest shortest", 1, differing(2**30 - 1, 2**30 - 1, "A 1 B 2 C 3", NONE)),
     ("tall cut", 2, "refused 2 at 30: record missing or cut off; second key\n"),
     ("old absent", 3, ""),
     ("folder old", 3, ""),

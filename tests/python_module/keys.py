@@ -36,7 +36,7 @@ def hold_no_keys(hold):
         hold.raises(f"cell of {thing!r}", TypeError, morgana.cell, thing, 0, 0)
         for call in (morgana.evaluate, morgana.evaluate_quadratic):
             hold.raises(f"{call} of {thing!r}", TypeError, call, thing, [3], [4])
-        for call in (morgana.compare, morgana.compare_quadratic):
+        for call in (morgana.compare, morgana.locate, morgana.compare_quadratic):
             hold.raises(f"{call} of {thing!r}", TypeError, call, thing, samples.OLD, [3], [4])
             hold.raises(f"{call} with {thing!r}", TypeError, call, samples.OLD, thing, [3], [4])
 
@@ -52,7 +52,7 @@ def hold_lengths(hold):
         hold.refused(f"a key of {len(key)} bytes", 1, 65536, morgana.check, key)
     wide = array.array("Q", bytes(65544))
     hold.refused("a key of 65,544 bytes, of fewer items", 1, 65536, morgana.check, wide)
-    for call in (morgana.compare, morgana.compare_quadratic):
+    for call in (morgana.compare, morgana.locate, morgana.compare_quadratic):
         hold.refused("the second too long", 1, 65536, call, samples.NEW, longer, [], [], key=2)
 
 

@@ -50,7 +50,7 @@ def hold_negative(hold):
         for point in (([number], [4]), ([3], [number]), ([3, number], [4]), ([P], [number])):
             for call in (morgana.evaluate, morgana.evaluate_quadratic):
                 hold.raises("a negative number", ValueError, call, samples.OLD, *point)
-            for call in (morgana.compare, morgana.compare_quadratic):
+            for call in (morgana.compare, morgana.locate, morgana.compare_quadratic):
                 hold.raises("a negative number", ValueError, call, samples.OLD, samples.NEW, *point)
         hold.raises("a negative row", ValueError, morgana.cell, samples.OLD, number, 0)
         hold.raises("a negative column", ValueError, morgana.cell, samples.OLD, 0, number)
@@ -63,6 +63,7 @@ def hold_huge(hold):
         for index, point in enumerate((([number], [4]), ([3], [number]))):
             hold.refused("evaluate", 23, index, morgana.evaluate, samples.OLD, *point)
             hold.refused("compare", 23, index, morgana.compare, *pair, *point)
+            hold.refused("locate", 23, index, morgana.locate, *pair, *point)
         for index in range(4):
             numbers = [*samples.PARTS[0], *samples.PARTS[1]]
             numbers[index] = number

@@ -14,6 +14,8 @@ CALLS = (
     (morgana.evaluate, (samples.OLD, *POINT)),
     (morgana.cell, (samples.OLD, 0, 1)),
     (morgana.compare, (samples.OLD, samples.NEW, *POINT)),
+    (morgana.locate, (samples.OLD, samples.NEW, *POINT)),
+    (morgana.locate, (samples.OLD, samples.WRONG, *POINT)),
     (morgana.evaluate_quadratic, (samples.OLD, *samples.PARTS)),
     (morgana.compare_quadratic, (samples.OLD, samples.NEW, *samples.PARTS)),
 )
@@ -103,8 +105,13 @@ def hold_own(hold):
     hold.equal("cell", values, morgana.cell(key, 0, 0))
     got = morgana.evaluate_quadratic(key, [], [])
     hold.equal("evaluate over p*p", pairs, [got.a, got.b, got.c])
-    for places, call in ((3072, morgana.compare), (6144, morgana.compare_quadratic)):
-        hold.true("compare", call(key, key, [], []).same)
+    hold.true("compare", morgana.compare(key, key, [], []).same)
+    hold.true("compare over p*p", morgana.compare_quadratic(key, key, [], []).same)
+    hold.equal("no cell", None, morgana.locate(key, key, [], []))
+    hold.true("a cell", morgana.locate(key, samples.SHORTEST, [], []).first == values)
+    for places, call in (
+        (3072, morgana.compare), (3072, morgana.locate), (6144, morgana.compare_quadratic),
+    ):
         short = array.array("I", [0]) * (places - 1)
         hold.refused("one place fewer", 31, places, call, key, key, [], [], short)
 

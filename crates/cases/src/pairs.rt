@@ -1,11 +1,12 @@
-// Compare, called on a case's two keys at its point, or at every point of a list of values. Counts are cut so that they fit
-// the arrays.
+// Compare, called on a case's two keys at its point, or at every point of a list of values, and locate at its point. Counts are cut so that
+// they fit the arrays.
+use crate::print;
 use crate::tally;
 use testing::input;
 use testing::input::Header;
 use testing::output;
 
-// Compares the keys at the case's point.
+// Compares the keys at the case's point, or locates a cell in which they differ.
 pub(crate) fn at_point(header: Header, data: &[u8]) {
     let fields = header.fields;
     let row_count = (fields[0] % 512) as usize;
@@ -14,7 +15,8 @@ pub(crate) fn at_point(header: Header, data: &[u8]) {
     let mut rows = [0u32; 512];
     let mut columns = [0u32; 512];
     let mut sheet = [0u32; 4096];
-    compare(
+    on(
+        header.operation,
         input::part(data, header.x as usize, header.y as usize),
         input::part(data, fields[3] as usize, fields[4] as usize),
         &mut rows[0..row_count],
@@ -39,12 +41,33 @@ pub(crate) fn at_points(header: Header, data: &[u8]) {
     );
 }
 
-// Reads the point and the sheet, compares, and prints the answer and the sheet afterwards.
-fn compare(first: &[u8], second: &[u8], rows: &mut [u32], columns: &mut [u32], sheet: &mut [u32]) {
+// Reads the point and the sheet, and makes the call.
+fn on(
+    operation: u8,
+    first: &[u8],
+    second: &[u8],
+    rows: &mut [u32],
+    columns: &mut [u32],
+    sheet: &mut [u32],
+) {
     input::fill(rows);
     input::fill(columns);
     input::fill(sheet);
+    match operation {
+        14 => locate(first, second, rows, columns, sheet),
+        _ => compare(first, second, rows, columns, sheet),
+    }
+}
+
+// Compares, and prints the answer and the sheet afterwards.
+fn compare(first: &[u8], second: &[u8], rows: &[u32], columns: &[u32], sheet: &mut [u32]) {
     output::compared(compare::compare(first, second, rows, columns, sheet));
+    output::sheet(sheet);
+}
+
+// Locates, and prints the answer and the sheet afterwards.
+fn locate(first: &[u8], second: &[u8], rows: &[u32], columns: &[u32], sheet: &mut [u32]) {
+    print::located(locate::locate(first, second, rows, columns, sheet));
     output::sheet(sheet);
 }
 

@@ -1,9 +1,11 @@
 // What was got, as text.
 use editions::Copied;
 use evaluate::Evaluated;
+use evaluate::Values;
 use field::Answer;
 use key::Checked;
 use key::Counts;
+use locate::Located;
 use records::Record;
 use records::Shape;
 use records::Taken;
@@ -64,13 +66,41 @@ pub(crate) fn checked(got: Checked) {
 pub(crate) fn evaluated(got: Evaluated) {
     match got {
         Evaluated::Values(v, taken) => {
-            field(v.a.value());
-            field(v.b.value());
-            output::number(v.c.value() as u64);
+            values(v);
             output::factors(taken);
         }
         Evaluated::Refused(r) => output::refusal(r),
     }
+}
+
+// "same", or a cell in which two keys differ with the values of both there, or the refusal with the key that it is about.
+pub(crate) fn located(got: Located) {
+    match got {
+        Located::Same => {
+            io::write_all(1, b"same");
+        }
+        Located::Differs(cell) => {
+            io::write_all(1, b"different at row ");
+            field(cell.row);
+            io::write_all(1, b"column ");
+            field(cell.column);
+            io::write_all(1, b"first ");
+            values(cell.first);
+            io::write_all(1, b" second ");
+            values(cell.second);
+        }
+        Located::Refused(key, r) => {
+            output::which(key);
+            output::refusal(r);
+        }
+    }
+}
+
+// The values of A, B and C.
+fn values(v: Values) {
+    field(v.a.value());
+    field(v.b.value());
+    output::number(v.c.value() as u64);
 }
 
 // The bytes of a buffer from an offset on, in hexadecimal.

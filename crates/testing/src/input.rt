@@ -11,14 +11,14 @@ pub struct Header {
     pub operation: u8,
     // The length of the text.
     pub text: usize,
-    // The operands or the offset of the call; of compare, where the first key begins and where it ends.
+    // The operands or the offset of the call; of compare and locate, where the first key begins and where it ends.
     pub x: u64,
     pub y: u64,
     // The kind of a record.
     pub kind: u8,
     // The fields of a record; of evaluate, how many numbers of rows and of columns and places of the sheet there are; of cell,
-    // the row, the column and how many places of the sheet there are; of compare, as of evaluate, or with the number of values
-    // in place of the sheet's, and where the second key begins and where it ends; of the move, how long the buffer is and from where on it
+    // the row, the column and how many places of the sheet there are; of compare and locate, as of evaluate, or with the number of
+    // values in place of the sheet's, and where the second key begins and where it ends; of the move, how long the buffer is and from where on it
     // is shown.
     pub fields: [u32; 5],
     // How many bytes 0 stand in front of the data, and how long the data is.

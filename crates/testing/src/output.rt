@@ -41,7 +41,7 @@ pub fn factors(taken: usize) {
 }
 
 // Which key a refusal is about.
-fn which(key: Which) {
+pub fn which(key: Which) {
     match key {
         Which::First => {
             io::write_all(1, b"first ");

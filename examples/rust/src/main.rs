@@ -3,11 +3,11 @@
 //!
 //!     cargo run --release -- OLD NEW
 //!
-//! Prints `same`, `different` or the refusal, and ends with 0, 1 or 2; with 3
-//! where anything else is wrong. (An output that is closed from the start is
-//! /dev/null to a Rust program.)
+//! Prints `same`, `different` with a cell in which the keys differ, or the
+//! refusal, and ends with 0, 1 or 2; with 3 where anything else is wrong. (An
+//! output that is closed from the start is /dev/null to a Rust program.)
 
-use morgana::{CompareRefusal, Field, Likelihood, Point, RandomPoints};
+use morgana::{CompareRefusal, DifferingCell, Field, Likelihood, Located, Point, RandomPoints};
 use std::error::Error;
 use std::ffi::OsString;
 use std::fs::File;
@@ -21,11 +21,12 @@ fn main() -> ExitCode {
         _ => Err("usage: compare OLD NEW".into()),
     };
     let (status, text) = match compared {
-        Ok(Some(bound)) => (
+        Ok(Answer::Same(bound)) => (
             0,
             format!("same\nkeys that differ would pass with probability at most {bound}"),
         ),
-        Ok(None) => (1, "different".to_owned()),
+        Ok(Answer::Different(Located::Differs(cell))) => (1, different(cell)),
+        Ok(Answer::Different(_)) => (1, "different".to_owned()),
         Err(error) if error.is::<CompareRefusal>() => (2, error.to_string()),
         Err(error) => return fail(&*error),
     };
@@ -40,8 +41,24 @@ fn fail(error: &dyn Error) -> ExitCode {
     ExitCode::from(3)
 }
 
-/// How unlikely it is that keys that differ pass, where two keys are the same.
-fn compare(old: &OsString, new: &OsString) -> Result<Option<Likelihood>, Box<dyn Error>> {
+/// What is printed of keys that differ in a cell.
+fn different(cell: DifferingCell) -> String {
+    let (row, column) = (cell.row, cell.column);
+    let [old, new] =
+        [cell.first, cell.second].map(|it| format!("A {} B {} C {}", it.a, it.b, it.c));
+    format!("different\nat row {row}, column {column}\nold {old}\nnew {new}")
+}
+
+/// What is found of two keys.
+enum Answer {
+    /// They are the same, and so unlikely is it that keys that differ pass.
+    Same(Likelihood),
+    /// They are different, and this is what locate answers of them.
+    Different(Located),
+}
+
+/// Compares the keys in two files.
+fn compare(old: &OsString, new: &OsString) -> Result<Answer, Box<dyn Error>> {
     // Both keys are at hand before a point is drawn: the bound speaks of such
     // points alone.
     let (old, new) = (read(old)?, read(new)?);
@@ -56,10 +73,20 @@ fn compare(old: &OsString, new: &OsString) -> Result<Option<Likelihood>, Box<dyn
     for _ in 0..count {
         let Point { rows, columns } = points.draw()?;
         if !morgana::compare_quadratic(&old, &new, &rows, &columns, &mut sheet)?.same {
-            return Ok(None);
+            // Locate takes a point over p. At the u of a random point keys that
+            // differ are found the same less than once in 35 million times.
+            let (rows, columns) = (keep_u(&rows), keep_u(&columns));
+            let located = morgana::locate(&old, &new, &rows, &columns, &mut sheet)?;
+            return Ok(Answer::Different(located));
         }
     }
-    Ok(Some(Likelihood::new(field, row_bits + column_bits, count)))
+    let bound = Likelihood::new(field, row_bits + column_bits, count);
+    Ok(Answer::Same(bound))
+}
+
+/// The u of some coordinates u + v·i.
+fn keep_u(numbers: &[u32]) -> Vec<u32> {
+    numbers.iter().step_by(2).copied().collect()
 }
 
 /// The key in a file, or as much of it as shows that it is too long.

@@ -7,10 +7,10 @@
 mod replies;
 mod served;
 
-use morgana::{QuadraticValues, Values, Which};
+use morgana::{Located, QuadraticValues, Values, Which};
 
 use crate::independent::field::{Fp, Quadratic};
-use crate::independent::{CompareRefusal, Compared, Counts, Evaluated, Refusal};
+use crate::independent::{CompareRefusal, Compared, Counts, DifferingCell, Evaluated, Refusal};
 pub use replies::*;
 pub use served::Served;
 
@@ -55,6 +55,27 @@ pub fn compare(
     sheet: &mut [u32],
 ) -> Result<Compared, CompareRefusal> {
     compared(morgana::compare(first, second, rows, columns, sheet))
+}
+
+/// Locate's answer through the safe call: none where the keys are the same at the point.
+pub fn locate(
+    first: &[u8],
+    second: &[u8],
+    rows: &[u32],
+    columns: &[u32],
+    sheet: &mut [u32],
+) -> Result<Option<DifferingCell>, CompareRefusal> {
+    let triple = |values: Values| [values.a, values.b, values.c];
+    match morgana::locate(first, second, rows, columns, sheet).map_err(refusal_of_two)? {
+        Located::Same => Ok(None),
+        Located::Differs(cell) => Ok(Some(DifferingCell {
+            row: cell.row,
+            column: cell.column,
+            first: triple(cell.first),
+            second: triple(cell.second),
+        })),
+        other => panic!("an answer of no list: {other:?}"),
+    }
 }
 
 /// Evaluate's answer over p² through the safe call.
@@ -106,19 +127,22 @@ fn evaluated(
 fn compared(
     answer: Result<morgana::Compared, morgana::CompareRefusal>,
 ) -> Result<Compared, CompareRefusal> {
-    match answer {
-        Ok(answer) => Ok(Compared {
-            same: answer.same,
-            factors: answer.factors,
-        }),
-        Err(refused) => Err(CompareRefusal {
-            key: match refused.which {
-                Which::First => 1,
-                Which::Second => 2,
-                Which::Neither => 0,
-            },
-            refusal: refusal(refused.refusal),
-        }),
+    let answer = answer.map_err(refusal_of_two)?;
+    Ok(Compared {
+        same: answer.same,
+        factors: answer.factors,
+    })
+}
+
+/// A refusal of compare or locate in the terms of the independent implementation.
+fn refusal_of_two(refused: morgana::CompareRefusal) -> CompareRefusal {
+    CompareRefusal {
+        key: match refused.which {
+            Which::First => 1,
+            Which::Second => 2,
+            Which::Neither => 0,
+        },
+        refusal: refusal(refused.refusal),
     }
 }
 

@@ -1,9 +1,10 @@
 //! The replies as C sees them: every field, all others 0 where the answer is a refusal.
 
-use morgana::raw::{self, CheckReply, CompareReply, EvaluateReply, MoveReply, QuadraticReply};
+use morgana::raw::{self, CheckReply, CompareReply, EvaluateReply};
+use morgana::raw::{LocateReply, MoveReply, QuadraticReply};
 
 use crate::independent::field::{Field, Fp, Quadratic};
-use crate::independent::{CompareRefusal, Compared, Counts, Evaluated, Refusal};
+use crate::independent::{CompareRefusal, Compared, Counts, DifferingCell, Evaluated, Refusal};
 
 /// The reply that check gives for an answer: all other fields 0 where it is a refusal.
 pub fn check_reply(answer: Result<Counts, Refusal>) -> CheckReply {
@@ -86,6 +87,40 @@ pub fn compare_reply(answer: Result<Compared, CompareRefusal>) -> CompareReply {
     }
 }
 
+/// The reply that locate gives for an answer: where it is "same" or a refusal, no field has a cell.
+pub fn locate_reply(answer: Result<Option<DifferingCell>, CompareRefusal>) -> LocateReply {
+    let (key, refusal, cell) = match answer {
+        Ok(cell) => (0, None, cell),
+        Err(CompareRefusal { key, refusal }) => (key, Some(refusal), None),
+    };
+    let nothing = DifferingCell {
+        row: 0,
+        column: 0,
+        first: [0; 3],
+        second: [0; 3],
+    };
+    let DifferingCell {
+        row,
+        column,
+        first: [first_a, first_b, first_c],
+        second: [second_a, second_b, second_c],
+    } = cell.unwrap_or(nothing);
+    LocateReply {
+        number: refusal.map_or(0, |refusal| refusal.number),
+        place: refusal.map_or(0, |refusal| refusal.place),
+        key,
+        same: (answer == Ok(None)).into(),
+        row,
+        column,
+        first_a,
+        first_b,
+        first_c,
+        second_a,
+        second_b,
+        second_c,
+    }
+}
+
 /// The reply that the move gives for an answer.
 pub fn move_reply(answer: Result<usize, Refusal>) -> MoveReply {
     match answer {
@@ -151,6 +186,31 @@ pub fn raw_compare(
     // SAFETY: each pointer and length are those of a slice, and the sheet overlaps no other.
     unsafe {
         raw::morgana_compare(
+            first.as_ptr(),
+            first.len(),
+            second.as_ptr(),
+            second.len(),
+            rows.as_ptr(),
+            rows.len(),
+            columns.as_ptr(),
+            columns.len(),
+            sheet.as_mut_ptr(),
+            sheet.len(),
+        )
+    }
+}
+
+/// Locate's reply as C sees it.
+pub fn raw_locate(
+    first: &[u8],
+    second: &[u8],
+    rows: &[u32],
+    columns: &[u32],
+    sheet: &mut [u32],
+) -> LocateReply {
+    // SAFETY: each pointer and length are those of a slice, and the sheet overlaps no other.
+    unsafe {
+        raw::morgana_locate(
             first.as_ptr(),
             first.len(),
             second.as_ptr(),

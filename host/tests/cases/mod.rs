@@ -10,7 +10,7 @@ use std::ops::RangeInclusive;
 
 use crate::generator::random::Random;
 use crate::independent::field::Field;
-use crate::independent::{CompareRefusal, Compared, Evaluated, Refusal};
+use crate::independent::{CompareRefusal, Compared, DifferingCell, Evaluated, Refusal};
 use crate::lent::Lent;
 
 /// The seed where `MORGANA_SEED` gives none.
@@ -160,11 +160,21 @@ pub fn outcome<T>(answer: &Result<T, Refusal>) -> String {
 
 /// The outcome of an answer of compare.
 pub fn compare_outcome(answer: &Result<Compared, CompareRefusal>) -> String {
-    match answer {
-        Ok(Compared { same: true, .. }) => String::from("same"),
-        Ok(Compared { same: false, .. }) => String::from("different"),
+    of_two(answer.map(|compared| compared.same))
+}
+
+/// The outcome of an answer of locate.
+pub fn locate_outcome(answer: &Result<Option<DifferingCell>, CompareRefusal>) -> String {
+    of_two(answer.map(|cell| cell.is_none()))
+}
+
+/// The outcome of an answer that two keys are the same, or are not, or of a refusal.
+fn of_two(same: Result<bool, CompareRefusal>) -> String {
+    match same {
+        Ok(true) => String::from("same"),
+        Ok(false) => String::from("different"),
         Err(CompareRefusal { key, refusal }) => {
-            let which = ["neither", "first", "second"][*key as usize];
+            let which = ["neither", "first", "second"][key as usize];
             format!("{which} {}", refusal.number)
         }
     }

@@ -4,10 +4,11 @@ use std::ptr::{null, null_mut};
 
 use crate::archive;
 use crate::independent::record::Record::Sparse;
-use crate::independent::{CompareRefusal, Compared, Evaluated, Refusal};
+use crate::independent::{CompareRefusal, Compared, DifferingCell, Evaluated, Refusal};
 use crate::written::{cell, key, sample};
 use morgana::raw::{morgana_cell, morgana_check, morgana_compare, morgana_evaluate};
-use morgana::raw::{morgana_compare_quadratic, morgana_evaluate_quadratic, morgana_move};
+use morgana::raw::{morgana_compare_quadratic, morgana_evaluate_quadratic};
+use morgana::raw::{morgana_locate, morgana_move};
 
 /// The key with one array of one place.
 fn single() -> Vec<u8> {
@@ -142,6 +143,43 @@ fn nulls_of_compare() {
         let out = sheet.as_mut_ptr();
         let reply = morgana_compare(bytes, length, bytes, length, none, 0, none, 0, out, 4);
         assert_eq!(reply, archive::compare_reply(SAME));
+    }
+    assert_eq!(sheet, [4, 5, 6, 7]);
+}
+
+/// Every slice of locate as null, one after the other and all at once.
+#[test]
+fn nulls_of_locate() {
+    let (key, other) = (single(), key(0, 0, &[Sparse(0, 0)]));
+    let (bytes, length) = (key.as_ptr(), key.len());
+    let mut sheet = [7; 4];
+    let refused = |key, refusal| archive::locate_reply(Err(CompareRefusal { key, refusal }));
+    let none: *const u32 = null();
+    // SAFETY: a null pointer goes with the length 0, all else is of slices.
+    unsafe {
+        let out = sheet.as_mut_ptr();
+        let reply = morgana_locate(null(), 0, bytes, length, none, 0, none, 0, out, 4);
+        assert_eq!(reply, refused(1, MISSING));
+        let reply = morgana_locate(bytes, length, null(), 0, none, 0, none, 0, out, 4);
+        assert_eq!(reply, refused(2, MISSING));
+        let (second, len) = (other.as_ptr(), other.len());
+        let nowhere = null_mut();
+        let reply = morgana_locate(bytes, length, second, len, none, 0, none, 0, nowhere, 0);
+        assert_eq!(reply, refused(0, NO_SHEET));
+    }
+    assert_eq!(sheet, [7; 4]);
+    // SAFETY: as above.
+    unsafe {
+        let out = sheet.as_mut_ptr();
+        let (second, len) = (other.as_ptr(), other.len());
+        let reply = morgana_locate(second, len, bytes, length, none, 0, none, 0, out, 4);
+        let cell = DifferingCell {
+            row: 0,
+            column: 0,
+            first: [0; 3],
+            second: [4, 5, 6],
+        };
+        assert_eq!(reply, archive::locate_reply(Ok(Some(cell))));
     }
     assert_eq!(sheet, [4, 5, 6, 7]);
 }

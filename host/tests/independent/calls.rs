@@ -137,7 +137,7 @@ pub fn cell(
 }
 
 /// The last array's dense values at a row and a column, where the key is small enough to unroll.
-fn dense_values(key: &Key, row: u32, column: u32) -> Option<[u32; 3]> {
+pub fn dense_values(key: &Key, row: u32, column: u32) -> Option<[u32; 3]> {
     if additions(key).is_some_and(|additions| additions <= MOST_ADDITIONS) {
         return unroll(key).last().map(|last| last.at(row, column));
     }

@@ -6,6 +6,7 @@
 //! - `dense`: the matrices of every array unrolled, and their multilinear extensions.
 //! - `edition`: a key moved into the other edition.
 //! - `calls`: check, evaluate, cell and compare on top of these, evaluate and compare over either field.
+//! - `locate`: a cell in which two keys differ, on top of compare and of the unrolled matrices.
 //! - `pass`: the same calls without unrolling, written for speed.
 
 // Each test program uses a part of these modules.
@@ -16,6 +17,7 @@ pub mod dense;
 pub mod edition;
 pub mod field;
 pub mod key;
+pub mod locate;
 pub mod pass;
 pub mod record;
 
@@ -77,7 +79,16 @@ pub struct Compared {
     pub factors: u64,
 }
 
-/// A refusal of compare; `key` is 1 for the first, 2 for the second, 0 for neither.
+/// What locate answers where the keys are different: a row and a column, and both keys' values there.
+#[derive(Debug, Clone, Copy, PartialEq, Eq)]
+pub struct DifferingCell {
+    pub row: u32,
+    pub column: u32,
+    pub first: [u32; 3],
+    pub second: [u32; 3],
+}
+
+/// A refusal of compare or locate; `key` is 1 for the first, 2 for the second, 0 for neither.
 #[derive(Debug, Clone, Copy, PartialEq, Eq)]
 pub struct CompareRefusal {
     pub key: u32,

@@ -101,7 +101,8 @@ fn the_first_point_that_differs_is_shown() {
     let folder = Folder::new("different", &[("one", &single(1)), ("two", &single(2))]);
     for (option, count) in [(&[][..], 1), (&["--points", "5"], 5), (&["--quadratic"], 1)] {
         let arguments = [&["compare", "one", "two"], option].concat();
-        let verdict = format!("different\nat point 1 of {count}\n");
+        let cell = "at row 0, column 0\nold A 1 B 2 C 3\nnew A 2 B 2 C 3\n";
+        let verdict = format!("different\n{cell}at point 1 of {count}\n");
         folder
             .run(&arguments)
             .answers(1, &format!("{verdict}rows\ncolumns\nfactors 0\n"));

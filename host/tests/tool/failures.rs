@@ -23,6 +23,7 @@ fn help_says_how_the_program_is_used() {
         "--pairs",
         "--quadratic",
         "--quiet",
+        "--no-locate",
         "--json",
         "What \"same\" means",
         "Exit status",

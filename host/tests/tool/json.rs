@@ -248,15 +248,18 @@ fn compare_has_an_object_for_each_pair() {
             "other",
             &["--points=2"],
             1,
-            "\"different\",\"certain\":true,\"point\":1,\"field\":\"p\",\"m\":0,\"count\":2,\
-             \"factors\":0,\"points\":[{\"rows\":[],\"columns\":[]}]}",
+            "\"different\",\"certain\":true,\"point\":1,\"row\":0,\"column\":0,\
+             \"old_a\":1,\"old_b\":2,\"old_c\":3,\"new_a\":2,\"new_b\":2,\"new_c\":3,\
+             \"field\":\"p\",\"m\":0,\"count\":2,\"factors\":0,\"points\":[{\"rows\":[],\"columns\":[]}]}",
         ),
         (
             "single",
             "sample",
             &["--quiet"],
             1,
-            "\"different\",\"certain\":true,\"point\":1,\"field\":\"p\",\"m\":2,\
+            "\"different\",\"certain\":true,\"point\":1,\"row\":0,\"column\":0,\
+             \"old_a\":1,\"old_b\":2,\"old_c\":3,\"new_a\":0,\"new_b\":0,\"new_c\":0,\
+             \"field\":\"p\",\"m\":2,\
              \"old_row_bits\":0,\"old_column_bits\":0,\"new_row_bits\":1,\"new_column_bits\":1,\
              \"count\":3,\"factors\":5}",
         ),

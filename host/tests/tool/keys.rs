@@ -98,6 +98,13 @@ pub fn other() -> Vec<u8> {
     [head(1, 1), sparse(1, 1), cell, END.to_vec()].concat()
 }
 
+/// What is said of the cell in which flat, the old key, and other differ.
+pub const FLAT_TO_OTHER: [&str; 3] = [
+    "at row 0, column 1",
+    "old A 10 B 14 C 0",
+    "new A 10 B 15 C 0",
+];
+
 /// A key of no bits with one cell.
 pub fn single(a: u32) -> Vec<u8> {
     [head(0, 0), sparse(0, 0), cell(0, 0, a, 2, 3), END.to_vec()].concat()

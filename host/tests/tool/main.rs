@@ -6,6 +6,7 @@ mod failures;
 mod json;
 mod keys;
 mod listings;
+mod located;
 mod many;
 mod moves;
 mod outputs;

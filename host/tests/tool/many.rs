@@ -1,6 +1,6 @@
 //! Several keys at once: check of several files, compare of two folders and of a list of pairs.
 
-use crate::keys::{flat, other, sample, single, single_in_two};
+use crate::keys::{flat, other, sample, single, single_in_two, FLAT_TO_OTHER};
 use crate::support::Folder;
 use std::fs;
 
@@ -55,15 +55,16 @@ fn folders_are_compared_by_the_paths_in_them() {
         .answers(0, &(same.concat() + "factors 30\n"));
     folder.write("old/d", &flat());
     folder.write("new/d", &other());
-    let different = "different \"old/d\" \"new/d\"; at point 1 of 3\n";
-    let wanted = [&same[0], &same[1], different, &same[2], "factors 34\n"].concat();
+    let cell = FLAT_TO_OTHER.join("; ");
+    let different = format!("different \"old/d\" \"new/d\"; {cell}; at point 1 of 3\n");
+    let wanted = [&same[0], &same[1], &different, &same[2], "factors 34\n"].concat();
     folder.run(&["compare", "old", "new"]).answers(1, &wanted);
     folder.write("new/deep/bad", b"\xff");
     folder.write("old/deep/bad", &sample());
     let refused =
         "refused 3 at 0: unknown kind; kind ff, and kinds are 01 to 08; new key \"new/deep/bad\"; \
          keys \"old/deep/bad\" \"new/deep/bad\"\n";
-    let pairs = [&same[0], &same[1], different, refused, &same[2]].concat();
+    let pairs = [&same[0], &same[1], &different, refused, &same[2]].concat();
     folder.run(&["compare", "old/", "new"]).status(2);
     folder
         .run(&["compare", "old", "new"])
@@ -105,7 +106,8 @@ fn a_list_has_a_pair_on_each_line() {
         "same \"sample\" \"flat key\"; {BOUND}\n\
          same \"sample\" \"sample\"; certain, identical files\n\
          different \"single\" \"sample\"; old has 0 row bits and 0 column bits, new 1 and 1: \
-         compared as filled with zeros; at point 1 of 3\nfactors 20\n"
+         compared as filled with zeros; at row 0, column 0; old A 1 B 2 C 3; new A 0 B 0 C 0; \
+         at point 1 of 3\nfactors 20\n"
     );
     folder.write("list", list);
     folder

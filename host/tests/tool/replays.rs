@@ -1,6 +1,6 @@
 //! Points that were printed, used again.
 
-use crate::keys::{flat, other, sample, single, single_in_two, wide, wide_in_two};
+use crate::keys::{flat, other, sample, single, single_in_two, wide, wide_in_two, FLAT_TO_OTHER};
 use crate::support::Folder;
 
 #[test]
@@ -114,7 +114,8 @@ fn a_point_that_shows_a_difference_shows_it_again() {
         assert_eq!(first.status, Some(1));
         folder.write("out", first.out.as_bytes());
         let (_, points) = first.out.split_once("\nrows").expect("a point");
-        let wanted = format!("different\nat point 1 of 1\nrows{points}");
+        let cell = FLAT_TO_OTHER.join("\n");
+        let wanted = format!("different\n{cell}\nat point 1 of 1\nrows{points}");
         run(&["--point", "out"]).answers(1, &wanted);
     }
 }
@@ -146,12 +147,10 @@ fn the_points_before_one_that_differs_are_left_out() {
         let keys = ["compare", "flat", "other", "--point", "points"];
         folder.run(&[&keys[..], options].concat())
     };
-    run(&[]).answers(
-        1,
-        "different\nat point 2 of 3\nrows 3\ncolumns 4\nfactors 8\n",
-    );
-    run(&["--quiet"]).answers(1, "different\nat point 2 of 3\nfactors 8\n");
-    let json = run(&["--json"]);
+    let verdict = format!("different\n{}\nat point 2 of 3\n", FLAT_TO_OTHER.join("\n"));
+    run(&[]).answers(1, &format!("{verdict}rows 3\ncolumns 4\nfactors 8\n"));
+    run(&["--quiet"]).answers(1, &format!("{verdict}factors 8\n"));
+    let json = run(&["--json", "--no-locate"]);
     let wanted = "\"point\":2,\"field\":\"p\",\"m\":2,\"count\":3,\"points_from\":\"points\",\
         \"factors\":8,\"points\":[{\"rows\":[3],\"columns\":[4]}]}\n";
     assert!(json.out.ends_with(wanted), "{}", json.out);
@@ -174,13 +173,15 @@ fn a_later_point_may_show_the_difference() {
     folder.write("points", points.as_bytes());
     folder.write("list", b"flat other\n");
     let run = |rest: &[&str]| folder.run(&[&["compare", "--point=points"], rest].concat());
+    let cell = FLAT_TO_OTHER.join("\n");
     run(&["flat", "other"]).answers(
         1,
-        "different\nat point 3 of 4\nrows 3\ncolumns 4\nfactors 12\n",
+        &format!("different\n{cell}\nat point 3 of 4\nrows 3\ncolumns 4\nfactors 12\n"),
     );
+    let cell = FLAT_TO_OTHER.join("; ");
     run(&["--pairs=list"]).answers(
         1,
-        "different \"flat\" \"other\"; at point 3 of 4\nfactors 12\n",
+        &format!("different \"flat\" \"other\"; {cell}; at point 3 of 4\nfactors 12\n"),
     );
     folder.write("points", &points.as_bytes()[..points.len() / 2]);
     run(&["--pairs=list"]).answers(

@@ -147,19 +147,31 @@ fn the_bound_goes_by_the_larger_bits() {
 #[test]
 fn keys_that_are_different_have_the_line_too() {
     let folder = folder("line-different");
-    for (old, new, bits) in [
-        ("other", "tall", "old has 1 row bit, new 3"),
-        ("broad", "other", "old has 2 column bits, new 1"),
+    for (old, new, bits, cell) in [
+        (
+            "other",
+            "tall",
+            "old has 1 row bit, new 3",
+            "at row 0, column 1\nold A 10 B 15 C 0\nnew A 10 B 14 C 0",
+        ),
+        (
+            "broad",
+            "other",
+            "old has 2 column bits, new 1",
+            "at row 0, column 1\nold A 10 B 14 C 0\nnew A 10 B 15 C 0",
+        ),
         (
             "single",
             "wide",
             "old has 0 row bits and 0 column bits, new 30 and 30",
+            "at row 0, column 0\nold A 1 B 2 C 3\nnew A 0 B 0 C 0",
         ),
     ] {
         for option in [&[][..], &["--quadratic"], &["--points=9"]] {
             let ran = folder.run(&[&["compare", old, new, "--quiet"], option].concat());
             ran.status(1);
-            let start = format!("different\n{bits}: compared as filled with zeros\nat point 1 of ");
+            let zeros = format!("{bits}: compared as filled with zeros");
+            let start = format!("different\n{zeros}\n{cell}\nat point 1 of ");
             assert!(ran.out.starts_with(&start), "{}", ran.out);
         }
     }
@@ -199,7 +211,7 @@ fn lists_and_folders_say_it_on_the_line_of_the_pair() {
         let rest = match word {
             "same" if bits.contains("row") => "bound 6.5e-27 (m = 4, 3 points)",
             "same" => "bound 2.8e-27 (m = 3, 3 points)",
-            _ => "at point 1 of 3",
+            _ => "at row 0, column 1; old A 10 B 15 C 0; new A 10 B 14 C 0; at point 1 of 3",
         };
         let names = [
             format!("{old:?} {new:?}"),
@@ -262,7 +274,8 @@ fn json_has_the_bits_of_both_keys() {
             &["--quiet", "--points=5"],
             1,
             start("single", "different")
-                + "\"certain\":true,\"point\":1,"
+                + "\"certain\":true,\"point\":1,\"row\":0,\"column\":0,\
+                   \"old_a\":0,\"old_b\":0,\"old_c\":0,\"new_a\":1,\"new_b\":2,\"new_c\":3,"
                 + &members(2, 0, 0)
                 + "\"count\":5,\"factors\":4}\n",
         ),
@@ -315,7 +328,8 @@ fn a_point_that_shows_a_difference_shows_it_again() {
             again.status(1);
             let line =
                 "old has 1 row bit and 1 column bit, new 3 and 2: compared as filled with zeros";
-            let start = format!("different\n{line}\nat point 1 of 1\nrows ");
+            let cell = "at row 0, column 1\nold A 10 B 15 C 0\nnew A 10 B 14 C 0";
+            let start = format!("different\n{line}\n{cell}\nat point 1 of 1\nrows ");
             assert!(again.out.starts_with(&start), "{}", again.out);
         }
     }

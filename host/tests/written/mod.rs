@@ -9,7 +9,7 @@ use crate::archive::{self, Served};
 use crate::independent::field::{Fp, Quadratic};
 use crate::independent::key;
 use crate::independent::record::{bytes, Call, Cell, Record};
-use crate::independent::{CompareRefusal, Compared, Counts, Evaluated, Refusal};
+use crate::independent::{CompareRefusal, Compared, Counts, DifferingCell, Evaluated, Refusal};
 
 /// The prime p.
 pub const P: u32 = morgana::P;
@@ -96,16 +96,22 @@ pub fn refuses(key: &[u8], number: u32, place: u64) {
     assert_eq!(evaluate(key, &[P], &[], &mut sheet), Err(refusal));
     let got = cell_of(key, u32::MAX, u32::MAX, &mut sheet);
     assert_eq!(got, Err(refusal));
-    let of = |key| Err(CompareRefusal { key, refusal });
+    let of = |key| CompareRefusal { key, refusal };
     let sample = sample();
-    assert_eq!(compare(key, &sample, &[], &[P], &mut sheet), of(1));
-    assert_eq!(compare(&sample, key, &[], &[P], &mut sheet), of(2));
+    let got = compare(key, &sample, &[], &[P], &mut sheet);
+    assert_eq!(got, Err(of(1)));
+    let got = compare(&sample, key, &[], &[P], &mut sheet);
+    assert_eq!(got, Err(of(2)));
+    let got = locate(key, &sample, &[], &[P], &mut sheet);
+    assert_eq!(got, Err(of(1)));
+    let got = locate(&sample, key, &[], &[P], &mut sheet);
+    assert_eq!(got, Err(of(2)));
     let got = evaluate_quadratic(key, &[P], &[], &mut sheet);
     assert_eq!(got, Err(refusal));
     let got = compare_quadratic(key, &sample, &[], &[P], &mut sheet);
-    assert_eq!(got, of(1));
+    assert_eq!(got, Err(of(1)));
     let got = compare_quadratic(&sample, key, &[], &[P], &mut sheet);
-    assert_eq!(got, of(2));
+    assert_eq!(got, Err(of(2)));
     assert_eq!(sheet, [7; 12]);
     for length in [0, 99] {
         let mut buffer = vec![7; length];
@@ -244,6 +250,26 @@ fn counted_in_both(
     let [one, other] = keys.map(read);
     assert_eq!(factors, key::factors_of_both(&one, &other));
     Ok(same)
+}
+
+/// The cell that locate answers, none for "same", held through the raw call too. It answers "same" and refuses where
+/// compare does.
+pub fn locate(
+    first: &[u8],
+    second: &[u8],
+    rows: &[u32],
+    columns: &[u32],
+    sheet: &mut [u32],
+) -> Result<Option<DifferingCell>, CompareRefusal> {
+    let mut other = sheet.to_vec();
+    let mut compared = sheet.to_vec();
+    let answer = archive::locate(first, second, rows, columns, sheet);
+    let reply = archive::raw_locate(first, second, rows, columns, &mut other);
+    assert_eq!(reply, archive::locate_reply(answer));
+    assert_eq!(sheet, other);
+    let same = archive::compare(first, second, rows, columns, &mut compared);
+    assert_eq!(answer.map(|cell| cell.is_none()), same.map(|it| it.same));
+    answer
 }
 
 /// The refusal of compare with a number, at a place, that names neither key.

@@ -70,6 +70,7 @@ pub fn parse(mut arguments: impl Iterator<Item = OsString>) -> Result<Request, S
                 "--points",
                 "--quadratic",
                 "--quiet",
+                "--no-locate",
                 "--json",
             ],
         ),
@@ -103,6 +104,7 @@ struct Given {
     points: Option<u32>,
     quadratic: bool,
     quiet: bool,
+    no_locate: bool,
     json: bool,
 }
 
@@ -161,6 +163,7 @@ impl Given {
             "--force" => std::mem::replace(&mut self.force, true),
             "--quadratic" => std::mem::replace(&mut self.quadratic, true),
             "--quiet" => std::mem::replace(&mut self.quiet, true),
+            "--no-locate" => std::mem::replace(&mut self.no_locate, true),
             "--json" => std::mem::replace(&mut self.json, true),
             _ => std::mem::replace(&mut self.random, true),
         };
@@ -252,6 +255,7 @@ impl Given {
             },
             field: self.field(),
             quiet: self.quiet,
+            locate: !self.no_locate,
         }
     }
 }

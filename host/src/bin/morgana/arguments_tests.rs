@@ -25,6 +25,7 @@ fn manner(points: Points) -> Manner {
         points,
         field: Field::Prime,
         quiet: false,
+        locate: true,
     }
 }
 
@@ -98,6 +99,14 @@ fn compare_takes_a_number_of_points_or_a_file() {
         ..manner(Points::Enough)
     };
     assert_eq!(command(&["compare", "--quiet", "a", "b"]), compare(quiet));
+    let bare = Manner {
+        locate: false,
+        ..manner(Points::Enough)
+    };
+    assert_eq!(
+        command(&["compare", "a", "--no-locate", "b"]),
+        compare(bare)
+    );
 }
 
 #[test]
@@ -264,6 +273,14 @@ fn what_is_wrong_is_said() {
             &["compare", "a", "b", "--quadratic", "--quadratic"],
             "--quadratic stands twice",
         ),
+        (
+            &["compare", "a", "b", "--no-locate", "--no-locate"],
+            "--no-locate stands twice",
+        ),
+        (
+            &["compare", "a", "b", "--no-locate=yes"],
+            "--no-locate takes no value",
+        ),
         (&["check", "a", "--json=yes"], "--json takes no value"),
         (
             &["compare", "-", "-"],
@@ -298,6 +315,8 @@ fn an_option_belongs_to_its_command() {
         &["check", "k", "--quiet"],
         &["cell", "k", "0", "0", "--quadratic"],
         &["compare", "a", "b", "--random"],
+        &["compare", "a", "b", "--locate"],
+        &["evaluate", "k", "--no-locate"],
         &["evaluate", "k", "--points", "1"],
         &["evaluate", "k", "--pairs", "l"],
         &["evaluate", "k", "--to", "f"],

@@ -3,7 +3,8 @@
 use crate::commands::{point_detail, refused};
 use crate::fault::detail;
 use crate::files::Name;
-use crate::outcome::{About, Failure, Outcome, Source, Tried, Verdict};
+use crate::locate::differing_cell;
+use crate::outcome::{About, Difference, Failure, Outcome, Refused, Source, Tried, Verdict};
 use crate::progress::Progress;
 use crate::shapes::Shapes;
 use morgana::{CompareRefusal, Counts, Field, Likelihood, Point, RandomPoints, Which};
@@ -29,6 +30,8 @@ pub struct Manner {
     pub field: Field,
     /// Whether the points are left out of the answer.
     pub quiet: bool,
+    /// Whether a cell is shown in which keys differ that are different.
+    pub locate: bool,
 }
 
 impl Manner {
@@ -55,7 +58,7 @@ pub fn compare(
     let (first, second) = (old.key()?, new.key()?);
     let trial = match Trial::of((old, &first), (new, &second), manner) {
         Ok(trial) => trial,
-        Err(refused) => return Ok(refused),
+        Err(refused) => return Ok(Outcome::Refused(Vec::new(), refused)),
     };
     if first == second {
         return Ok(Outcome::Compared(Verdict::Identical, Vec::new()));
@@ -89,10 +92,14 @@ impl<'a> Trial<'a> {
         (old, first): (&'a Name, &'a [u8]),
         (new, second): (&'a Name, &'a [u8]),
         manner: &'a Manner,
-    ) -> Result<Trial<'a>, Outcome> {
+    ) -> Result<Trial<'a>, Refused> {
         let side = |name, key, about: fn(Name) -> About| match morgana::check(key) {
             Ok(counts) => Ok(Side { name, key, counts }),
-            Err(refusal) => Err(refused(refusal, detail(key, refusal), about(name.clone()))),
+            Err(refusal) => Err(Refused {
+                refusal,
+                detail: detail(key, refusal),
+                about: about(name.clone()),
+            }),
         };
         Ok(Trial {
             old: side(old, first, About::Old)?,
@@ -151,18 +158,27 @@ impl<'a> Trial<'a> {
             };
             factors += compared.factors;
             if !compared.same {
-                used.clear();
+                let difference = self.difference(&point, tried);
+                let verdict = Verdict::Different(difference, self.tried(count, file, factors));
+                let shown = (!self.manner.quiet).then_some(point);
+                return Ok(Outcome::Compared(verdict, shown.into_iter().collect()));
             }
             if !self.manner.quiet {
                 used.push(point);
             }
-            if !compared.same {
-                let verdict = Verdict::Different(tried, self.tried(count, file, factors));
-                return Ok(Outcome::Compared(verdict, used));
-            }
         }
         let verdict = Verdict::Same(self.tried(tried, file, factors));
         Ok(Outcome::Compared(verdict, used))
+    }
+
+    /// Where keys are different that are so at the point with this number.
+    fn difference(&self, point: &Point, number: u32) -> Difference {
+        let (first, second) = (self.old.key, self.new.key);
+        let cell = || differing_cell(first, second, point, self.manner.field);
+        Difference {
+            point: number,
+            cell: self.manner.locate.then(cell),
+        }
     }
 
     /// What so many points from a file, or drawn, say, and the factors of those that were tried.

@@ -42,6 +42,7 @@ Values are modulo p = 2147483647.
       written whole or not at all, and not at all where the move is refused.
 
   morgana compare OLD NEW [--points N | --point FILE] [--quadratic] [--quiet]
+                          [--no-locate]
   morgana compare --pairs FILE ...
       Compares two keys, also of two shapes or editions, at random points: as
       many as bring the probability that keys that differ would pass below
@@ -49,6 +50,13 @@ Values are modulo p = 2147483647.
       for which no bound is given. Prints `same` or `different`, what that
       rests on, and then the points; for `different` the first point that shows
       it. With --quiet no points are printed. The count of factors comes last.
+      Behind `different` stands a cell in which the keys differ, with A, B and C
+      of both keys there, zero beyond a key's own rows and columns:
+      at row 0, column 1
+      old A 10 B 14 C 0
+      new A 10 B 15 C 0
+      It is found from the point; other cells, also before it, may differ too.
+      With --no-locate it is left out.
       Where one key has more row bits or column bits than the other, both are
       compared as filled with zeros, and what stands behind the verdict says so:
       old has 3 row bits, new 4: compared as filled with zeros
@@ -66,7 +74,7 @@ Values are modulo p = 2147483647.
 Options
   --quadratic  Takes coordinates from the field of the p² elements u + v·i,
                where i² is -1. A coordinate is two numbers, u and then v, and
-               so are A, B and C.
+               so are A, B and C at a point; in a cell they are one number.
   --json       Prints answers as JSON, one object a line; JSON.md, which is
                installed in share/doc/morgana, describes them.
   An option's value is the next argument, or follows =, as in --points=3. A
@@ -83,7 +91,11 @@ What \"same\" means
   certain where the files are identical, and where the matrices have one place
   (no row bits and no column bits); else it has the bound that is printed, for
   points drawn at random once both keys are fixed; m is the larger row bits and
-  the larger column bits together. A bound below 1.0e-38 is printed as that.
+  the larger column bits together. A bound below 1.0e-38 is printed as that. For
+  several points too it is a proved law: keys that differ in a cell are found
+  the same at every point of at most (q^m - (q - 1)^m)^s of all (q^m)^s lists of
+  s points over a field of q elements, and what it takes is that the points are
+  drawn uniformly and independently of each other once both keys are fixed.
 
 Factors
   The last line of evaluate, cell and compare counts the factors of the weights
@@ -98,8 +110,8 @@ Factors
   most (N + N')(cells + calls + 2), where N and N' are the larger rows and
   columns, and cells and calls those of both keys. The line adds up all answers
   of a run, at all their points; identical files and refusals have no count,
-  and where nothing has, there is no such line. With --json each object has its
-  own count.
+  and where nothing has, there is no such line. To find the cell behind
+  `different` counts nothing. With --json each object has its own count.
 
 Point file
   Two lines for each point, as evaluate and compare print them; their whole

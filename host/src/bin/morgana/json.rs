@@ -5,7 +5,7 @@ use crate::output::Pieces;
 use crate::points::field_name;
 use crate::records::{Edition, Record, Untaken};
 use crate::show::{Entry, Line};
-use morgana::{Counts, Field, Point, Values};
+use morgana::{Counts, DifferingCell, Field, Point, Values};
 use std::iter;
 
 /// The lines of an answer, in pieces.
@@ -266,12 +266,29 @@ fn with_verdict(object: Object, verdict: &Verdict) -> Object {
             let object = object.status("same").truth("certain", tried.m == 0);
             (object.truth("identical", false), tried)
         }
-        Verdict::Different(number, tried) => {
+        Verdict::Different(difference, tried) => {
             let object = object.status("different").truth("certain", true);
-            (object.number("point", number), tried)
+            let object = object.number("point", difference.point);
+            (with_cell(object, difference.cell), tried)
         }
     };
     with_tried(object, verdict, tried)
+}
+
+/// An object with a cell in which two keys differ, if there is one to show.
+fn with_cell(object: Object, cell: Option<DifferingCell>) -> Object {
+    let Some(cell) = cell else { return object };
+    let (old, new) = (cell.first, cell.second);
+    object.numbers(&[
+        ("row", cell.row),
+        ("column", cell.column),
+        ("old_a", old.a),
+        ("old_b", old.b),
+        ("old_c", old.c),
+        ("new_a", new.a),
+        ("new_b", new.b),
+        ("new_c", new.c),
+    ])
 }
 
 /// An object with the points that were tried, the shapes where they are not one, the bound on keys that differ where there

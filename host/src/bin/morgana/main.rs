@@ -10,6 +10,7 @@ mod fault;
 mod files;
 mod help;
 mod json;
+mod locate;
 mod outcome;
 mod output;
 mod pairs;

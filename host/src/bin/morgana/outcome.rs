@@ -4,7 +4,7 @@ use crate::files::Name;
 use crate::records::Edition;
 use crate::shapes::Shapes;
 use crate::show::Line;
-use morgana::{Counts, Evaluated, Field, Likelihood, Point, Refusal, Values};
+use morgana::{Counts, DifferingCell, Evaluated, Field, Likelihood, Point, Refusal, Values};
 use std::fmt::{Display, Formatter};
 use std::io;
 
@@ -93,8 +93,17 @@ pub enum Verdict {
     Identical,
     /// The keys are the same at every point.
     Same(Tried),
-    /// The keys are different at a point, the last that was tried: its number, counted from 1.
-    Different(u32, Tried),
+    /// The keys are different.
+    Different(Difference, Tried),
+}
+
+/// Where two keys are different.
+#[derive(Debug)]
+pub struct Difference {
+    /// The number of the point that shows it, the last that was tried, counted from 1.
+    pub point: u32,
+    /// A cell in which they differ, unless none is wanted.
+    pub cell: Option<DifferingCell>,
 }
 
 /// The points at which keys were compared.
@@ -194,6 +203,14 @@ impl Verdict {
     /// The shapes of the two keys, where they are not one.
     pub fn shapes(&self) -> Option<Shapes> {
         self.tried().and_then(|tried| tried.shapes)
+    }
+
+    /// The cell that is shown of keys that are different.
+    pub fn cell(&self) -> Option<DifferingCell> {
+        match self {
+            Verdict::Different(difference, _) => difference.cell,
+            _ => None,
+        }
     }
 
     /// The points at which the keys were compared; none for identical files.

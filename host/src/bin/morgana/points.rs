@@ -9,10 +9,11 @@ use std::fmt::Write;
 const VERDICTS: [&str; 2] = ["same", "different"];
 
 /// How the other lines begin that evaluate and compare print beside the points, but for those of values and factors.
-const STARTS: [&str; 10] = [
+const STARTS: [&str; 11] = [
     "same \"",
     "different \"",
     "old has ",
+    "at row ",
     "keys that differ would pass",
     "the files are identical",
     "the matrices have one place",
@@ -84,9 +85,12 @@ pub fn parse(text: &[u8], field: Field) -> Result<Vec<Point>, Fault> {
 /// may stand behind one where the end of the line was lost.
 fn is_other(text: &str) -> bool {
     let of_values = |word: &str| ["A", "B", "C"].contains(&word) || decimal::<u32>(word).is_some();
+    let of_key = ["old ", "new "]
+        .iter()
+        .find_map(|key| text.strip_prefix(key));
     let begins = STARTS.iter().any(|start| text.starts_with(start));
     let count = text.strip_prefix("factors ").and_then(decimal::<u64>);
-    text.split(' ').all(of_values)
+    of_key.unwrap_or(text).split(' ').all(of_values)
         || VERDICTS.contains(&text)
         || count.is_some()
         || begins && !text.ends_with('}')
@@ -219,7 +223,8 @@ mod tests {
 
     #[test]
     fn several_points_and_what_stands_beside_them_are_read() {
-        let text = "same\nold has 0 row bits, new 1: compared as filled with zeros\n\
+        let text = "different\nat row 0, column 3\nold A 1 B 2 C 3\nnew A 0 B 2147483646 C 3\nat point 2 of 3\n\
+            same\nold has 0 row bits, new 1: compared as filled with zeros\n\
             keys that differ would pass with probability at most 1.0e-38 (m = 2, 9 points)\n\
             rows 1\ncolumns 2\n0 20 28 0\nA 1 B 2 C 3\nfactors 3\nrows 3\ncolumns 4\nfactors 18446744073709551615\n";
         let wanted = vec![point(&[1], &[2]), point(&[3], &[4])];
@@ -274,9 +279,12 @@ mod tests {
             r#"A 1 B 2 C 3{"rows":[1],"columns":[2]}"#,
             r#"same{"rows":[1],"columns":[2]}"#,
             r#"at point 1 of 2{"rows":[1],"columns":[2]}"#,
+            r#"at row 1, column 2{"rows":[1],"columns":[2]}"#,
+            r#"old A 1 B 2 C 3{"rows":[1],"columns":[2]}"#,
             r#"old has 1 row bit, new 2: compared as filled with zeros{"rows":[1],"columns":[2]}"#,
             r#"factors 6{"rows":[1],"columns":[2]}"#,
             "A 1 B 2 C 3rows 4\ncolumns 5",
+            "new A 1 B 2 C 3rows 4\ncolumns 5",
             "samerows 4\ncolumns 5",
             "factors 6rows 4\ncolumns 5",
         ] {
@@ -317,6 +325,10 @@ mod tests {
             ("factor 1\n", 1, r#"does not begin with "rows""#),
             ("old had 1 row bit\n", 1, r#"does not begin with "rows""#),
             ("new has 1 row bit\n", 1, r#"does not begin with "rows""#),
+            ("old\n", 1, r#"does not begin with "rows""#),
+            ("old a 1\n", 1, r#"does not begin with "rows""#),
+            ("old new A 1\n", 1, r#"does not begin with "rows""#),
+            ("at rows 1\n", 1, r#"does not begin with "rows""#),
             (
                 "factors 18446744073709551616\n",
                 1,

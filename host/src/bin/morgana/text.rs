@@ -4,7 +4,7 @@ use crate::outcome::{About, Answer, Evaluation, Files, Moved, Outcome, Source, T
 use crate::output::Pieces;
 use crate::points;
 use crate::show::{bytes, Line};
-use morgana::{Counts, Field, Values};
+use morgana::{Counts, DifferingCell, Field, Values};
 use std::iter;
 
 /// The lines of an answer, in pieces; one of several is a line that names its files, and that of a copy names the copy's.
@@ -19,10 +19,7 @@ pub fn text(answer: &Answer, several: bool) -> Pieces<'_> {
         Outcome::Checked(length, _, counts) => format!("{}{files}\n", checked(*length, counts)),
         Outcome::Shown(lines) => shown(lines),
         Outcome::Evaluated(_, evaluation) => evaluated(evaluation),
-        Outcome::Celled(_, _, evaluated) => {
-            let Values { a, b, c } = evaluated.values;
-            format!("A {a} B {b} C {c}\n")
-        }
+        Outcome::Celled(_, _, evaluated) => format!("{}\n", values(evaluated.values)),
         Outcome::Moved(moved) => format!("{}{files}\n", moved_line(moved)),
         Outcome::Compared(verdict, _) if several => {
             let word = format!("{}{files}", word(verdict));
@@ -111,6 +108,11 @@ fn evaluated(evaluation: &Evaluation) -> String {
     text
 }
 
+/// The values of a cell.
+fn values(Values { a, b, c }: Values) -> String {
+    format!("A {a} B {b} C {c}")
+}
+
 /// Numbers, each behind a space.
 fn numbers(numbers: &[u32]) -> String {
     numbers.iter().map(|number| format!(" {number}")).collect()
@@ -124,10 +126,22 @@ fn word(verdict: &Verdict) -> &'static str {
     }
 }
 
-/// What is said of two keys, in its order: the verdict in a word, their shapes where they are not one, and a reason.
+/// What is said of two keys, in its order: the verdict in a word, their shapes where they are not one, a cell in which
+/// they differ where it is shown, and a reason.
 fn said(word: String, verdict: &Verdict, reason: String) -> impl Iterator<Item = String> {
     let shapes = verdict.shapes().map(|shapes| shapes.line());
-    iter::once(word).chain(shapes).chain(iter::once(reason))
+    let cell = verdict.cell().into_iter().flat_map(differing);
+    let behind = shapes.into_iter().chain(cell);
+    iter::once(word).chain(behind).chain(iter::once(reason))
+}
+
+/// A cell in which two keys differ: its place, the old key's values and the new key's.
+fn differing(cell: DifferingCell) -> [String; 3] {
+    [
+        format!("at row {}, column {}", cell.row, cell.column),
+        format!("old {}", values(cell.first)),
+        format!("new {}", values(cell.second)),
+    ]
 }
 
 /// What the verdict rests on.
@@ -147,7 +161,9 @@ fn reason(verdict: &Verdict) -> String {
                 points_count(tried.count)
             ),
         },
-        Verdict::Different(number, tried) => format!("at point {number} of {}", tried.count),
+        Verdict::Different(difference, tried) => {
+            format!("at point {} of {}", difference.point, tried.count)
+        }
     }
 }
 
@@ -186,8 +202,9 @@ fn points_count(count: u32) -> String {
 mod tests {
     use super::*;
     use crate::files::Name;
+    use crate::outcome::Difference;
     use crate::shapes::Shapes;
-    use morgana::{Likelihood, Point};
+    use morgana::{Likelihood, Point, P};
 
     /// An answer of compare with these points.
     fn answer(verdict: Verdict, used: &[Point]) -> Answer {
@@ -206,6 +223,14 @@ mod tests {
             columns: vec![],
         });
         let unequal = |old, new| Some(Shapes { old, new });
+        let values = |a, b, c| Values { a, b, c };
+        let cell = DifferingCell {
+            row: 0,
+            column: (1 << 30) - 1,
+            first: values(0, P - 1, 1),
+            second: values(0, 0, 0),
+        };
+        let different = |cell| Difference { point: 1, cell };
         for field in [Field::Prime, Field::Quadratic] {
             for (m, shapes) in [
                 (0, None),
@@ -227,7 +252,11 @@ mod tests {
                         },
                         factors: u64::MAX,
                     };
-                    for verdict in [Verdict::Same(tried()), Verdict::Different(1, tried())] {
+                    for verdict in [
+                        Verdict::Same(tried()),
+                        Verdict::Different(different(None), tried()),
+                        Verdict::Different(different(Some(cell)), tried()),
+                    ] {
                         let text: String = text(&answer(verdict, &used), false).collect();
                         let text = text + &factors(u64::MAX);
                         let read = points::parse(text.as_bytes(), field);
