@@ -1,6 +1,6 @@
 -- Two keys compared at several points, which stands behind the likelihood of "same" at all of them. Over a field of q elements, with m
 -- coordinates to a point: "of the (q^m)^s lists of s points, compare says "same" at all s of them on no more than (q^m - (q-1)^m)^s, where
--- the keys differ in a cell". Its parts stand in quotation marks beside the definitions.
+-- the keys differ in a cell". Its parts stand in quotation marks beside the definitions, where s is `count`.
 use Prim.Native.Nat.{ℕ, _+_, _-_, _*_, _^_, _≤_, _<_, max}
 use mathlib.Core.Bool.{Bool, true}
 use mathlib.Core.List.{List}

@@ -19,7 +19,7 @@ use Rattle.location.proofs.FoundDifferent.{found-different}
 use Rattle.location.proofs.SettledCoordinates.{asked-count}
 use Rattle.location.proofs.CellDiffers.{differ-here}
 
--- the row and the column of an answer, and its values
+-- the row and the column of an answer, and whether its values are the same
 found-row : Found → ℕ
 found-row sameThere = 0
 found-row (differIn row column one other) = row
@@ -30,10 +30,10 @@ found-column sameThere = 0
 found-column (differIn row column one other) = column
 found-column (refusedAs which number place) = 0
 
-values-same : Found → Type 0
-values-same sameThere = ⊥
-values-same (differIn row column one other) = one ≡ other
-values-same (refusedAs which number place) = ⊥
+SameValues : Found → Type 0
+SameValues sameThere = ⊥
+SameValues (differIn row column one other) = one ≡ other
+SameValues (refusedAs which number place) = ⊥
 
 is-cell : Found → Bool
 is-cell sameThere = false
@@ -58,7 +58,7 @@ larger first second one other n n' k k' accepts accepts' is is' =
 
 pub certain : (first second rows columns sheet : List ℕ) (answer : Found) → answer ≡ located first second rows columns sheet .answer →
     Certain first second answer
-unfolding byAnswer found-row found-column values-same is-cell
+unfolding byAnswer found-row found-column SameValues is-cell
 certain first second rows columns sheet answer told n n' k k' is is' row column one other found =
     go (compared prime first second rows columns sheet .answer) refl (sym told ∙ found)
   where
@@ -80,7 +80,7 @@ certain first second rows columns sheet answer told n n' k k' is is' row column 
           λ alike.
               at .cell .differ .unequal
               (ap₂ (lastDense first part) (at .row-is) (at .column-is) ∙ part-there part first _ _
-              ∙ ap (valueOf part) (subst values-same (sym here) alike)
+              ∙ ap (valueOf part) (subst SameValues (sym here) alike)
               ∙ sym (part-there part second _ _) ∙ sym (ap₂ (lastDense second part) (at .row-is) (at .column-is))),
         )
 

@@ -64,7 +64,7 @@ no-coordinates : answerOf small (sparse 0 0 []) [] [] ∷ answerOf small small [
 unfolding locating
 no-coordinates = refl
 
--- the sheet is as after compare at the bits of the cell, whose numbers the second key's come over; one that is too short is left
+-- the sheet is as after compare at the bits of the cell: the second key's numbers stand over the first's; one that is too short is left
 sheets :
     located corner none (7 ∷ []) (3 ∷ []) (replicate 4 9) ∷ located (grown 1 1) none (7 ∷ []) (3 ∷ []) (replicate 7 9) ∷
     located corner none (7 ∷ []) (3 ∷ []) (replicate 2 9) ∷ []
