@@ -39,7 +39,7 @@ fn on(header: Header, buffer: &mut [u8]) {
         9 => pairs::at_point(header, buffer),
         10 => pairs::at_points(header, buffer),
         13 => moves::moved(header, buffer),
-        14 => pairs::at_point(header, buffer),
+        14 | 15 => pairs::at_point(header, buffer),
         _ => {}
     }
 }

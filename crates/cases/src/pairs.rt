@@ -1,12 +1,12 @@
-// Compare, called on a case's two keys at its point, or at every point of a list of values, and locate at its point. Counts are cut so that
-// they fit the arrays.
+// Compare, called on a case's two keys at its point, or at every point of a list of values, and locate and shorter at its point. Counts are
+// cut so that they fit the arrays.
 use crate::print;
 use crate::tally;
 use testing::input;
 use testing::input::Header;
 use testing::output;
 
-// Compares the keys at the case's point, or locates a cell in which they differ.
+// Compares the keys at the case's point, locates a cell in which they differ, or asks for the shorter.
 pub(crate) fn at_point(header: Header, data: &[u8]) {
     let fields = header.fields;
     let row_count = (fields[0] % 512) as usize;
@@ -42,10 +42,10 @@ pub(crate) fn at_points(header: Header, data: &[u8]) {
 }
 
 // Reads the point and the sheet, and makes the call.
-fn on(
+fn on<'a>(
     operation: u8,
-    first: &[u8],
-    second: &[u8],
+    first: &'a [u8],
+    second: &'a [u8],
     rows: &mut [u32],
     columns: &mut [u32],
     sheet: &mut [u32],
@@ -55,6 +55,7 @@ fn on(
     input::fill(sheet);
     match operation {
         14 => locate(first, second, rows, columns, sheet),
+        15 => shorter(first, second, rows, columns, sheet),
         _ => compare(first, second, rows, columns, sheet),
     }
 }
@@ -68,6 +69,23 @@ fn compare(first: &[u8], second: &[u8], rows: &[u32], columns: &[u32], sheet: &m
 // Locates, and prints the answer and the sheet afterwards.
 fn locate(first: &[u8], second: &[u8], rows: &[u32], columns: &[u32], sheet: &mut [u32]) {
     print::located(locate::locate(first, second, rows, columns, sheet));
+    output::sheet(sheet);
+}
+
+// Prints which key is handed back, the length of the part that is, and the sheet after both calls.
+fn shorter<'a>(
+    first: &'a [u8],
+    second: &'a [u8],
+    rows: &[u32],
+    columns: &[u32],
+    sheet: &mut [u32],
+) {
+    let part = shorter::shorter(&*first, &*second, &*rows, &*columns, &mut *sheet);
+    let length = part.len();
+    print::shorter(
+        shorter::which(first, second, rows, columns, &mut *sheet),
+        length,
+    );
     output::sheet(sheet);
 }
 

@@ -10,6 +10,7 @@ use records::Record;
 use records::Shape;
 use records::Taken;
 use records::Written;
+use refusal::Which;
 use testing::output;
 
 // A number, or a refusal.
@@ -94,6 +95,18 @@ pub(crate) fn located(got: Located) {
             output::refusal(r);
         }
     }
+}
+
+// The key that is handed back whole, 0 for none, and how many bytes are handed back.
+pub(crate) fn shorter(key: Which, length: usize) {
+    io::write_all(1, b"key ");
+    match key {
+        Which::First => output::number(1),
+        Which::Second => output::number(2),
+        Which::Neither => output::number(0),
+    }
+    io::write_all(1, b" length ");
+    output::number(length as u64);
 }
 
 // The values of A, B and C.

@@ -10,6 +10,9 @@ use Rattle.comparison.specs.Compare.{Answer, same, different, refusedFor
 pub same-not-different : same ≡ different → ⊥
 same-not-different e = let o : _≡_ {A = ℕ} 0 1 = cc in omega arith
 
+pub refused-not-same : (which : Which) (number place : ℕ) → refusedFor which number place ≡ same → ⊥
+refused-not-same which number place e = let o : _≡_ {A = ℕ} 0 1 = cc in omega arith
+
 pub refused-not-different : (which : Which) (number place : ℕ) → refusedFor which number place ≡ different → ⊥
 refused-not-different which number place e = let o : _≡_ {A = ℕ} 0 1 = cc in omega arith
 

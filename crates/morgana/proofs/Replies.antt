@@ -1,6 +1,6 @@
 -- What a reply tells: no other answer has it, `same` is 1 exactly where compare's answer is "same", and the factors keep to their limit.
 use Prim.Native.Nat.{ℕ, _≤_}
-use mathlib.Core.List.{List}
+use mathlib.Core.List.{List, [], _∷_}
 use mathlib.Core.Path.{_≡_, refl, sym, ap, ap₂}
 use native.Mathlib.Omega.{arith}
 use lib.Dec.{eqb}
@@ -26,13 +26,14 @@ use Rattle.locate.specs.Answer.{locatedAnswer}
 use Rattle.locate.specs.declared.Located.{Located}
 use Rattle.editions.specs.Move.{copiedOutcome}
 use Rattle.editions.specs.declared.Copied.{Copied}
-use Rattle.morgana.specs.Reply.{checkReply, evaluateReply, quadraticReply, keyNumber, compareReply, locateReply, moveReply}
+use Rattle.morgana.specs.Reply.{checkReply, evaluateReply, quadraticReply, keyNumber, compareReply, shorterReply, locateReply, moveReply}
 use Rattle.morgana.specs.declared.CheckReply.{CheckReply}
 use Rattle.morgana.specs.declared.CompareReply.{CompareReply}
 use Rattle.morgana.specs.declared.EvaluateReply.{EvaluateReply}
 use Rattle.morgana.specs.declared.LocateReply.{LocateReply}
 use Rattle.morgana.specs.declared.MoveReply.{MoveReply}
 use Rattle.morgana.specs.declared.QuadraticReply.{QuadraticReply}
+use Rattle.morgana.specs.declared.ShorterReply.{ShorterReply}
 
 -- a refusal is told by its number and its place
 refusal-told : (f g : Refusal) → numberOf (f .reason) ≡ numberOf (g .reason) → f .place ≡ g .place → f ≡ g
@@ -133,6 +134,17 @@ compare-told (Compared.Refused v f) (Compared.Different n) e =
 compare-told (Compared.Refused v f) (Compared.Refused w g) e =
     ap₂ Compared.Refused (which-told v w (ap (λ (x : CompareReply). x .key) e))
     (refusal-told f g (ap (λ (x : CompareReply). x .number) e) (ap (λ (x : CompareReply). x .place) e))
+
+pub shorter-told : (v w : Which) (first second first' second' : List ℕ) →
+    shorterReply v first second ≡ shorterReply w first' second' → v ≡ w
+shorter-told v w first second first' second' e = which-told v w (ap (λ (x : ShorterReply). x .key) e)
+
+-- the numbers and the lengths of what is handed back of a key of three bytes and one of two
+shorter-replies :
+    shorterReply Which.First (1 ∷ 2 ∷ 3 ∷ []) (4 ∷ 5 ∷ []) ∷ shorterReply Which.Second (1 ∷ 2 ∷ 3 ∷ []) (4 ∷ 5 ∷ []) ∷
+    shorterReply Which.Neither (1 ∷ 2 ∷ 3 ∷ []) (4 ∷ 5 ∷ []) ∷ []
+    ≡ record { key = 1; length = 3 } ∷ record { key = 2; length = 2 } ∷ record { key = 0; length = 0 } ∷ []
+shorter-replies = refl
 
 values-told : (v w : Values) → v .a .0 ≡ w .a .0 → v .b .0 ≡ w .b .0 → v .c .0 ≡ w .c .0 → v ≡ w
 values-told v w a b c = λ i. record { a = record { 0 = a i }; b = record { 0 = b i }; c = record { 0 = c i } }

@@ -1,6 +1,7 @@
 -- The replies of the C interface, by what is answered. Where nothing is refused, number and place are 0; where something is, every
--- other field is 0, but for the key that a refused comparison names.
+-- other field is 0, but for the key that a refused comparison names. The reply on the shorter key tells no refusal.
 use Prim.Native.Nat.{ℕ}
+use mathlib.Core.List.{List}
 use Rattle.refusal.specs.Outcome.{Outcome, given, refused}
 use Rattle.refusal.specs.declared.Which.{Which}
 use Rattle.field.specs.Scalars.{prime}
@@ -8,6 +9,7 @@ use Rattle.quadratic.specs.Quadratic.{quadratic}
 use Rattle.key.specs.declared.Counts.{Counts}
 use Rattle.evaluation.specs.Evaluate.{Counted}
 use Rattle.comparison.specs.Compare.{Answer, same, different, refusedFor}
+use Rattle.shorter.specs.Shorter.{handedLength}
 use Rattle.location.specs.Locate.{Found, sameThere, differIn, refusedAs}
 use Rattle.morgana.specs.declared.CheckReply.{CheckReply}
 use Rattle.morgana.specs.declared.CompareReply.{CompareReply}
@@ -15,6 +17,7 @@ use Rattle.morgana.specs.declared.EvaluateReply.{EvaluateReply}
 use Rattle.morgana.specs.declared.LocateReply.{LocateReply}
 use Rattle.morgana.specs.declared.MoveReply.{MoveReply}
 use Rattle.morgana.specs.declared.QuadraticReply.{QuadraticReply}
+use Rattle.morgana.specs.declared.ShorterReply.{ShorterReply}
 
 -- check's reply: the counts of an accepted key, with n and n'
 abbrev pub checkReply : Outcome Counts → CheckReply
@@ -61,7 +64,7 @@ quadraticReply (given counted) =
 quadraticReply (refused number place) =
     record { number = number; place = place; «a_u» = 0; «a_v» = 0; «b_u» = 0; «b_v» = 0; «c_u» = 0; «c_v» = 0; factors = 0 }
 
--- the key that a refused comparison names
+-- the key that a refused comparison names, or that is handed back whole
 abbrev pub keyNumber : Which → ℕ
 keyNumber Which.First = 1
 keyNumber Which.Second = 2
@@ -74,6 +77,10 @@ compareReply same factors = record { number = 0; place = 0; key = 0; same = 1; f
 compareReply different factors = record { number = 0; place = 0; key = 0; same = 0; factors = factors }
 compareReply (refusedFor which number place) factors =
     record { number = number; place = place; key = keyNumber which; same = 0; factors = 0 }
+
+-- shorter's reply: the key that is handed back whole, if one is, and the length of what is handed back
+abbrev pub shorterReply : Which → List ℕ → List ℕ → ShorterReply
+shorterReply which first second = record { key = keyNumber which; length = handedLength which first second }
 
 -- locate's reply where no cell is answered
 abbrev pub noCell : ℕ → ℕ → ℕ → ℕ → LocateReply

@@ -1,24 +1,26 @@
-// The C interface (01, 'The keysheet program and the host'; 02, E2, E9 and E4): check, evaluate, cell and compare over byte slices and
-// slices of 32-bit numbers, evaluate and compare over either field, locate, and the move of a key into the other edition. A reply is a
-// struct of numbers: where nothing is refused its number and place are 0, and where something is, every other field is 0, but for the key
-// that a refused comparison names.
+// The C interface (01, 'The keysheet program and the host'; 02, E2, E9, E4 and E6): check, evaluate, cell and compare over byte slices and
+// slices of 32-bit numbers, evaluate and compare over either field, locate, the shorter of two keys, and the move of a key into the other
+// edition. A reply is a struct of numbers: where nothing is refused its number and place are 0, and where something is, every other field is
+// 0, but for the key that a refused comparison names. The reply on the shorter key has no number and no place, which compare tells.
 mod reply;
 
 use key::Checked;
 ghost use mathlib.Core.Path.{_≡_};
+ghost use lib.Dec.{ltb};
 ghost use Rattle.field.specs.Scalars.{prime};
 ghost use Rattle.quadratic.specs.Quadratic.{quadratic};
 ghost use Rattle.key.specs.Check.{checkedKey};
 ghost use Rattle.key.specs.Factors.{FactorsLimited};
 ghost use Rattle.evaluation.specs.Cell.{celled};
 ghost use Rattle.evaluation.specs.Evaluate.{evaluated};
-ghost use Rattle.comparison.specs.AgreementBound.{Agreement};
+ghost use Rattle.comparison.specs.AgreementBound.{Agreement, isSame};
 ghost use Rattle.comparison.specs.Compare.{compared, BothLimited};
+ghost use Rattle.shorter.specs.Shorter.{handedKey};
 ghost use Rattle.location.specs.Cell.{Certain};
 ghost use Rattle.location.specs.Locate.{located};
 ghost use Rattle.editions.specs.Move.{moving};
 ghost use Rattle.editions.specs.OtherEdition.{Moves};
-ghost use Rattle.morgana.specs.Reply.{checkReply, evaluateReply, quadraticReply, compareReply, locateReply, moveReply};
+ghost use Rattle.morgana.specs.Reply.{checkReply, evaluateReply, quadraticReply, compareReply, shorterReply, locateReply, moveReply};
 ghost use Rattle.morgana.specs.Version.{version};
 
 // The reply to check: an accepted key's counts of arrays, cells and calls, and its row bits and column bits.
@@ -87,6 +89,14 @@ pub struct LocateReply {
     pub second_c: u32,
 }
 
+// The reply to shorter: the key that is handed back whole, 1 the first, 2 the second, 0 for the empty beginning of the first; and the length
+// of what is handed back.
+#[repr(C)]
+pub struct ShorterReply {
+    pub key: u32,
+    pub length: u64,
+}
+
 // The reply to move: the copy's length.
 #[repr(C)]
 pub struct MoveReply {
@@ -100,7 +110,7 @@ pub struct MoveReply {
 pub extern "C" fn morgana_version() -> u32
     ensures { λ r. ⌜ r ≡ version ⌝ }
 {
-    6000
+    7000
 }
 
 // Whether bytes are an accepted key: its counts, or the first fault with its place.
@@ -223,6 +233,37 @@ pub extern "C" fn morgana_locate(
     reply::of_located(locate::locate(first, second, rows, columns, sheet))
 }
 
+// Which key `shorter::shorter` hands back: the shorter of the two where compare says "same" at the point, the first on a tie, and the empty
+// beginning of the first where it says "different" or refuses; and its length. By `told` the length is 0 exactly where compare does not say
+// "same". The sheet is as compare leaves it. `agreement` is as for `compare::compare`.
+#[no_mangle]
+pub extern "C" fn morgana_shorter(
+    first: &[u8],
+    second: &[u8],
+    rows: &[u32],
+    columns: &[u32],
+    sheet: &mut [u32],
+) -> ShorterReply
+    ensures reply { λ r. ⌜
+        r ≡
+        shorterReply
+        (handedKey (now (first .entry)) (now (second .entry)) (now (rows .entry)) (now (columns .entry)) (now (sheet .entry)))
+        (now (first .entry)) (now (second .entry)) ⌝ }
+    ensures sheet { λ _. ⌜
+        now (sheet .exit) ≡
+        compared prime (now (first .entry)) (now (second .entry)) (now (rows .entry)) (now (columns .entry)) (now (sheet .entry))
+        .sheet ⌝ }
+    ensures told { λ r. ⌜
+        ltb 0 (r .length) ≡
+        isSame
+        (compared prime (now (first .entry)) (now (second .entry)) (now (rows .entry)) (now (columns .entry)) (now (sheet .entry))
+        .answer) ⌝ }
+    ensures agreement { λ _. ⌜ Agreement prime (now (first .entry)) (now (second .entry)) ⌝ }
+{
+    let which = shorter::which(&*first, &*second, rows, columns, sheet);
+    reply::of_shorter(which, first, second)
+}
+
 // The last array's A, B and C at a point of the field of p² elements, two numbers a coordinate, u first, and every array's on the sheet,
 // those of array i from place 6i on, u before v; a refused call leaves the sheet.
 #[no_mangle]
@@ -272,8 +313,8 @@ pub extern "C" fn morgana_compare_quadratic(
 }
 
 // The key copied to the start of the buffer, into the edition that its head isn't. The answer is the copy's length, and the bytes behind
-// it stay; a refused call leaves the buffer. By `copy` all other calls answer on the copy as on the key, over either field, and moved
-// in its turn it gives the key.
+// it stay; a refused call leaves the buffer. By `copy` check, cell and locate, and evaluate and compare over either field, answer on the copy
+// as on the key, and moved in its turn it gives the key. `morgana_shorter` compares alike too, and goes by the copy's own length.
 #[no_mangle]
 pub extern "C" fn morgana_move(key: &[u8], buffer: &mut [u8]) -> MoveReply
     ensures reply { λ r. ⌜ r ≡ moveReply (moving (now (key .entry)) (now (buffer .entry)) .answer) ⌝ }

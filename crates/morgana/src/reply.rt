@@ -4,6 +4,7 @@ use crate::EvaluateReply;
 use crate::LocateReply;
 use crate::MoveReply;
 use crate::QuadraticReply;
+use crate::ShorterReply;
 use compare::Compared;
 use editions::Copied;
 use evaluate::Evaluated;
@@ -17,7 +18,7 @@ ghost use Rattle.compare.specs.Answer.{comparedAnswer, comparedFactors};
 ghost use Rattle.evaluate_quadratic.specs.Answer.{evaluatedOutcome as evaluatedQuadratic};
 ghost use Rattle.locate.specs.Answer.{locatedAnswer};
 ghost use Rattle.editions.specs.Move.{copiedOutcome};
-ghost use Rattle.morgana.specs.Reply.{evaluateReply, quadraticReply, compareReply, noCell, locateReply, keyNumber, moveReply};
+ghost use Rattle.morgana.specs.Reply.{evaluateReply, quadraticReply, compareReply, shorterReply, noCell, locateReply, keyNumber, moveReply};
 
 // The reply for an answer of evaluate or cell.
 pub(crate) fn of_evaluated(answer: Evaluated) -> EvaluateReply
@@ -99,6 +100,23 @@ pub(crate) fn of_compared(answer: Compared) -> CompareReply
             same: 0,
             factors: 0,
         },
+    }
+}
+
+// The reply where this one of two keys is handed back whole, or neither.
+pub(crate) fn of_shorter(which: Which, first: &[u8], second: &[u8]) -> ShorterReply
+    ensures { λ r. ⌜ r ≡ shorterReply which (now (first .entry)) (now (second .entry)) ⌝ }
+{
+    match which {
+        Which::First => ShorterReply {
+            key: 1,
+            length: first.len() as u64,
+        },
+        Which::Second => ShorterReply {
+            key: 2,
+            length: second.len() as u64,
+        },
+        Which::Neither => ShorterReply { key: 0, length: 0 },
     }
 }
 

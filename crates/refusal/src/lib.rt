@@ -43,11 +43,11 @@ pub struct Refusal {
     pub place: usize,
 }
 
-// The key that a refusal is about, where a call takes two.
+// One of the two keys that a call takes: the one that a refusal is about, or that is handed back.
 pub enum Which {
     First,
     Second,
-    // The two together, the point or the sheet.
+    // No key: the refusal is about the two together, the point or the sheet.
     Neither,
 }
 
