@@ -1,5 +1,6 @@
 """Morgana circuit keys: checked, evaluated at a point, asked for single cells,
-compared, with a cell that differs, and moved into the other edition.
+compared, with a cell in which they differ or the shorter of the two, and moved
+into the other edition.
 
 The module calls the proved library libmorgana.so by ctypes. Its calls are
 those of morgana.h. A key is bytes, in any object that has the buffer protocol
@@ -73,6 +74,18 @@ point where they are the same it answers None. `wrong` has 15 for the 14 of
 >>> found.first == morgana.cell(old, found.row, found.column)
 True
 
+Shorter keys. At a point where two keys are the same, shorter answers the one
+that has fewer bytes, of two of one length the first: the very object that was
+given. Where they are different, or compare refuses, it answers the empty
+beginning of the first:
+
+>>> len(old), len(new)
+(53, 28)
+>>> morgana.shorter(old, new, [3], [4]) is new
+True
+>>> morgana.shorter(old, wrong, [3], [4])
+b''
+
 Factors. These answers count the factors of the weights that a key's cells and
 calls have, one for each coordinate: k + k' for a cell of an array of k row and
 k' column bits, and (k - K) + (k' - K') for a call from such an array of one of
@@ -106,7 +119,8 @@ moved answers a key in the edition that it is not of:
 >>> morgana.moved(there) == old
 True
 
-Refusals. What the library refuses raises Refused, and leaves the sheet:
+Refusals. What the library refuses raises Refused, in every call but shorter,
+and leaves the sheet:
 
 >>> morgana.check(old[:40])
 Traceback (most recent call last):
@@ -133,13 +147,13 @@ import secrets
 import typing
 
 __all__ = [
-    "check", "evaluate", "cell", "compare", "locate", "evaluate_quadratic", "compare_quadratic",
-    "moved", "version", "random_point", "likelihood", "Counts", "Values", "Quadratic", "Compared",
-    "DifferingCell", "Refused", "Number", "P", "KEY_LIMIT", "MOST_ARRAYS", "MOST_BITS", "SHEET",
-    "SHEET_QUADRATIC", "FOLDER",
+    "check", "evaluate", "cell", "compare", "locate", "shorter", "evaluate_quadratic",
+    "compare_quadratic", "moved", "version", "random_point", "likelihood", "Counts", "Values",
+    "Quadratic", "Compared", "DifferingCell", "Refused", "Number", "P", "KEY_LIMIT", "MOST_ARRAYS",
+    "MOST_BITS", "SHEET", "SHEET_QUADRATIC", "FOLDER",
 ]
 
-__version__ = "0.6.0"
+__version__ = "0.7.0"
 
 # The folder of the installed library; empty in a module that is not installed.
 FOLDER = ""
@@ -304,6 +318,14 @@ def _reply(name, *fields, last=None):
     return type(name, (ctypes.Structure,), {"_fields_": types})
 
 
+class _ShorterReply(ctypes.Structure):
+    """What morgana_shorter answers: the key that is handed back whole, 1 or 2, and its length; 0
+    and 0 for the empty beginning of the first.
+    """
+
+    _fields_ = [("key", ctypes.c_uint32), ("length", ctypes.c_uint64)]
+
+
 _SIX = "a_u", "a_v", "b_u", "b_v", "c_u", "c_v"
 _BOTH = "first_a", "first_b", "first_c", "second_a", "second_b", "second_c"
 
@@ -327,6 +349,7 @@ _FUNCTIONS = {
     "morgana_cell": (_EvaluateReply, _KEY + _PLACE + _NUMBERS),
     "morgana_compare": (_CompareReply, 2 * _KEY + 3 * _NUMBERS),
     "morgana_locate": (_LocateReply, 2 * _KEY + 3 * _NUMBERS),
+    "morgana_shorter": (_ShorterReply, 2 * _KEY + 3 * _NUMBERS),
     "morgana_evaluate_quadratic": (_QuadraticReply, _KEY + 3 * _NUMBERS),
     "morgana_compare_quadratic": (_CompareReply, 2 * _KEY + 3 * _NUMBERS),
     "morgana_move": (_MoveReply, _KEY + _BUFFER),
@@ -340,7 +363,7 @@ def _chosen():
 
 
 def _version_text(number):
-    """The version that one number stands for, as 0.6.0."""
+    """The version that one number stands for, as 0.7.0."""
     return f"{number // 1_000_000}.{number // 1_000 % 1_000}.{number % 1_000}"
 
 
@@ -523,6 +546,23 @@ def locate(first, second, rows, columns, sheet=None):
     function = _library.morgana_locate
     reply = _accepted(_at_point(function, [first, second], rows, columns, sheet, SHEET))
     return _located(reply)
+
+
+def shorter(first, second, rows, columns, sheet=None):
+    """Answers the shorter of two keys, the very object that was given, where
+    they are the same at a point, as compare takes it; of two of one length the
+    first. Where they are different there, or compare refuses, it answers the
+    empty beginning of the first, first[:0], as its own slicing gives it. No
+    accepted key is empty, so that what is answered is empty exactly where
+    compare does not say same. The sheet is as compare leaves it.
+
+    Raises no Refused: compare tells the number, the place and the key.
+    """
+    function = _library.morgana_shorter
+    reply = _at_point(function, [first, second], rows, columns, sheet, SHEET)
+    if reply.key == 0:
+        return first[:0]
+    return first if reply.key == 1 else second
 
 
 def evaluate_quadratic(key, rows, columns, sheet=None):

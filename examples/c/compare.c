@@ -1,8 +1,8 @@
 /* compare FIRST SECOND: compares two key files, of any shapes, at a random
- * point over p*p. Prints `same`, `different` with a cell in which the keys
- * differ, or `refused N at P`, with the key at fault behind it. The status is
- * 0, 1 or 2, and 3 where anything else is wrong. Compile it with the shared or
- * with the static library:
+ * point over p*p. Prints `same` with the shorter key, `different` with a cell
+ * in which the keys differ, or `refused N at P`, with the key at fault behind
+ * it. The status is 0, 1 or 2, and 3 where anything else is wrong. Compile it
+ * with the shared or with the static library:
  *
  *   cc compare.c -o compare $(pkg-config --cflags --libs morgana)
  *   cc compare.c -o compare $(pkg-config --cflags morgana) \
@@ -89,21 +89,30 @@ int main(int argc, char **argv)
     MorganaCompareReply reply = morgana_compare_quadratic(
         first, first_length, second, second_length, rows, rows_length,
         columns, columns_length, sheet, MORGANA_SHEET_QUADRATIC);
+    rows_length = keep_u(rows, rows_length);
+    columns_length = keep_u(columns, columns_length);
+
+    /* Over p, at the u of the point: where that shows a difference, nothing is
+     * handed back. */
+    MorganaShorterReply shorter = morgana_shorter(
+        first, first_length, second, second_length, rows, rows_length, columns,
+        columns_length, sheet, MORGANA_SHEET);
+    int same = reply.same && shorter.length > 0;
 
     if (reply.number != MORGANA_NOT_REFUSED) {
         printf("refused %" PRIu32 " at %" PRIu64 "%s\n", reply.number,
                reply.place, at_fault[reply.key]);
-    } else if (reply.same) {
+    } else if (same) {
         puts("same");
+        printf("keep the %s, %" PRIu64 " bytes\n",
+               shorter.key == 1 ? "first" : "second", shorter.length);
     } else {
         puts("different");
-        rows_length = keep_u(rows, rows_length);
-        columns_length = keep_u(columns, columns_length);
         print_cell(morgana_locate(first, first_length, second, second_length,
                                   rows, rows_length, columns, columns_length,
                                   sheet, MORGANA_SHEET));
     }
     if (fflush(stdout) != 0 || ferror(stdout))
         err(3, "standard output");
-    return reply.number == MORGANA_NOT_REFUSED ? !reply.same : 2;
+    return reply.number == MORGANA_NOT_REFUSED ? !same : 2;
 }

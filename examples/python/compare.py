@@ -2,9 +2,10 @@
 
     python3 compare.py OLD NEW
 
-Prints `same`, with a bound on how likely keys that differ would pass, or
-`different`, with a cell in which they do, or the refusal. The status is 0 for
-same, 1 for different, 2 for a refusal, and 3 for anything else.
+Prints `same`, with a bound on how likely keys that differ would pass and the
+shorter key, which is the one to keep, or `different`, with a cell in which they
+do, or the refusal. The status is 0 for same, 1 for different, 2 for a refusal,
+and 3 for anything else.
 """
 
 import decimal
@@ -54,7 +55,9 @@ def compare(old, new):
     """Prints what is found of two keys, and returns the status."""
     bits = checked(old, 1).larger_shape(checked(new, 2))
     rows, columns = morgana.random_point(*bits, quadratic=True)
-    if not morgana.compare_quadratic(old, new, rows, columns).same:
+    # Over p, at the u of the point: where that shows a difference, it is empty.
+    kept = morgana.shorter(old, new, rows[::2], columns[::2])
+    if not kept or not morgana.compare_quadratic(old, new, rows, columns).same:
         cell = differing_cell(old, new, rows, columns)
         print("different")
         print(f"row {cell.row}, column {cell.column}")
@@ -65,6 +68,7 @@ def compare(old, new):
     number = UPWARDS.divide(bound.numerator, bound.denominator)
     print("same")
     print(f"keys that differ would pass with probability at most {number:g}")
+    print(f"keep the {'first' if kept is old else 'second'}, {len(kept)} bytes")
     return 0
 
 

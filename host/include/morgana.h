@@ -1,5 +1,6 @@
 /* Morgana circuit keys: checked, evaluated at a point, asked for single cells,
- * compared, asked where they differ, and moved into the other edition.
+ * compared, asked where they differ and which is shorter, and moved into the
+ * other edition.
  *
  * Link with libmorgana, on Linux on x86-64. The header can be included from C
  * (C99 and later) and from C++ (C++11 and later). Whatever numbers and slices a
@@ -44,7 +45,9 @@
  * by 1 - r for each coordinate r that it does not use. These are what is
  * compared; the sheet has what was evaluated, not multiplied. Keys of one shape
  * use all coordinates. All of this holds for morgana_locate too, which compares
- * and, where the keys are different, names a cell in which they differ.
+ * and, where the keys are different, names a cell in which they differ, and for
+ * morgana_shorter, which compares and, where the keys are the same, hands back
+ * the shorter one.
  *
  * Sheets. A call needs three places of its sheet, over p*p six, for each array
  * of the key. Where it compares two keys, it needs them for each array of the
@@ -53,7 +56,8 @@
  *
  * Replies. `number` is 0 where nothing is refused, and then `place` is 0. Where
  * the call is refused, `number` and `place` give the refusal, every other field
- * but `key` is 0, and the sheet or the buffer is untouched.
+ * but `key` is 0, and the sheet or the buffer is untouched. The reply of
+ * morgana_shorter has neither: morgana_compare tells them.
  *
  * Factors. `factors` counts the factors of all weights of the key, one for each
  * coordinate: a cell in an array of k row bits and k' column bits counts
@@ -65,8 +69,8 @@
  * keys are compared, it is the sum of both keys' counts and, for each key, of
  * the coordinates that it does not use, (N - n) + (N' - n') of them; it comes
  * with "same" and with "different", and is at most
- * (N + N') * (cells + calls of both keys) + 2 * (N + N'). morgana_locate counts
- * none.
+ * (N + N') * (cells + calls of both keys) + 2 * (N + N'). morgana_locate and
+ * morgana_shorter count none.
  *
  * Refusals. `number` says what is at fault: it is one of MorganaNumber, which
  * lists the numbers by who is at fault. `place` says where, and the number says
@@ -93,7 +97,7 @@ extern "C" {
 
 /* The version that this header belongs to, and all of it as one number. */
 #define MORGANA_VERSION_MAJOR 0
-#define MORGANA_VERSION_MINOR 6
+#define MORGANA_VERSION_MINOR 7
 #define MORGANA_VERSION_PATCH 0
 #define MORGANA_VERSION                                                        \
     (1000000 * MORGANA_VERSION_MAJOR + 1000 * MORGANA_VERSION_MINOR +          \
@@ -245,6 +249,13 @@ typedef struct MorganaLocateReply {
     uint32_t second_c; /* its C */
 } MorganaLocateReply;
 
+/* What morgana_shorter answers. */
+typedef struct MorganaShorterReply {
+    uint32_t key;    /* what is handed back: 1 the first key, 2 the second, 0
+                        the empty beginning of the first */
+    uint64_t length; /* its bytes: the length of that key, or 0 */
+} MorganaShorterReply;
+
 /* What morgana_move answers. */
 typedef struct MorganaMoveReply {
     uint32_t number; /* the number of the refusal, or 0 */
@@ -311,6 +322,22 @@ MorganaLocateReply morgana_locate(const uint8_t *first, size_t first_length,
                                   const uint32_t *columns,
                                   size_t columns_length,
                                   uint32_t *sheet, size_t sheet_length);
+
+/* Compares two keys at a point as morgana_compare does, and hands back the
+ * shorter of the two where that says "same": the lent key itself, whole, the
+ * first where both have one length. Where morgana_compare says "different" or
+ * refuses, it hands back the empty beginning of the first key. No accepted key
+ * is empty, so `length` is 0 exactly where morgana_compare does not say "same".
+ * There is no number and no place: morgana_compare on the same slices tells
+ * them. The sheet is as morgana_compare leaves it, and so untouched where that
+ * refuses. A key with calls has another length once morgana_move has moved it,
+ * so that the other of the two keys may be handed back then. */
+MorganaShorterReply morgana_shorter(const uint8_t *first, size_t first_length,
+                                    const uint8_t *second, size_t second_length,
+                                    const uint32_t *rows, size_t rows_length,
+                                    const uint32_t *columns,
+                                    size_t columns_length,
+                                    uint32_t *sheet, size_t sheet_length);
 
 /* Answers the last array's A, B and C at a point of two numbers a coordinate
  * and the count of factors, and writes every array's six numbers into the

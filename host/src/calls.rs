@@ -199,6 +199,59 @@ pub fn locate(
     })
 }
 
+/// Compares two keys at a point as [`compare`] does, and hands back the shorter of the two lent slices itself where that
+/// says "same", the first where both have one length; else the empty beginning of the first.
+///
+/// No accepted key is empty, so the result is empty exactly where compare does not say "same"; a refusal's number and
+/// place are what compare tells. The sheet is as compare leaves it: where it refuses, as it was. A key with calls has
+/// another length once [`moved`] has moved it, so that the other of the two keys may be handed back then.
+///
+/// ```
+/// let new = [
+///     1, 0, 0, // head: no bits
+///     2, 0, 0, // a sparse array of that shape
+///     4, 0, 0, 0, 0, 0, 0, 0, 0, 5, 0, 0, 0, 7, 0, 0, 0, 0, 0, 0, 0, // a cell: A 5, B 7, C 0
+///     6, // end
+/// ];
+/// let old = [&new[..3], &[2, 0, 0], &new[3..]].concat(); // with an array that nothing calls
+///
+/// let mut sheet = [0; 6];
+/// assert!(std::ptr::eq(morgana::shorter(&old, &new, &[], &[], &mut sheet), &new[..]));
+///
+/// let zero = [1, 0, 0, 2, 0, 0, 6]; // different
+/// assert!(morgana::shorter(&old, &zero, &[], &[], &mut sheet).is_empty());
+/// ```
+pub fn shorter<'a>(
+    first: &'a [u8],
+    second: &'a [u8],
+    rows: &[u32],
+    columns: &[u32],
+    sheet: &mut [u32],
+) -> &'a [u8] {
+    same_interface();
+    // SAFETY: each pointer and length are of one slice, lent until the call returns, and the sheet, lent for
+    // writing, overlaps no other; replies are of this interface.
+    let reply = unsafe {
+        raw::morgana_shorter(
+            first.as_ptr(),
+            first.len(),
+            second.as_ptr(),
+            second.len(),
+            rows.as_ptr(),
+            rows.len(),
+            columns.as_ptr(),
+            columns.len(),
+            sheet.as_mut_ptr(),
+            sheet.len(),
+        )
+    };
+    match reply.key {
+        1 => first,
+        2 => second,
+        _ => &first[..0],
+    }
+}
+
 /// Answers the last array's A, B and C at a point whose coordinates u + v·i are two numbers each, u first, and the count
 /// of factors, and writes array i's six numbers into the sheet at 6i; or refuses as evaluate does, with 21 and 22 where
 /// there are not 2n and 2n' numbers, and with 23 at the index of a number.

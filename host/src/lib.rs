@@ -1,5 +1,5 @@
-//! Morgana circuit keys: checked, evaluated at a point, asked for single cells, compared, asked where they differ, and
-//! moved into the other edition.
+//! Morgana circuit keys: checked, evaluated at a point, asked for single cells, compared, asked where they differ and
+//! which is shorter, and moved into the other edition.
 //!
 //! The functions are safe Rust over the library `libmorgana.a`, whose calls are proved to answer
 //! rightly for every input; this package around it is tested. None takes memory from the heap or
@@ -48,7 +48,8 @@
 //! the sheet has what was evaluated, not multiplied. Keys of one shape use all coordinates.
 //!
 //! [`locate`] compares two keys in the same way, and where they are different it answers a cell in
-//! which they differ, with the values of both.
+//! which they differ, with the values of both. [`shorter`] compares them in the same way too, and
+//! where they are the same it hands back the shorter one.
 //!
 //! # Sheets
 //!
@@ -67,7 +68,7 @@
 //! counts one. The records of all arrays count, whether they are called or not, and the point plays no part. So the
 //! count is at most (n + n')·(cells + calls), of what [`check`] answers. Compare answers the sum of both keys' counts
 //! and, for each key, of the coordinates that it does not use, (N - n) + (N' - n') of them, with "same" and with
-//! "different": at most (N + N')·(cells + calls of both keys) + 2·(N + N'). Locate counts none.
+//! "different": at most (N + N')·(cells + calls of both keys) + 2·(N + N'). Locate and shorter count none.
 //!
 //! # Editions
 //!
@@ -78,7 +79,8 @@
 //!
 //! # Refusals
 //!
-//! What a call cannot work with it refuses with a number and a place: [`Refusal`] has the table.
+//! What a call cannot work with it refuses with a number and a place: [`Refusal`] has the table. Where compare refuses,
+//! shorter hands back an empty slice.
 
 #![deny(missing_docs, unsafe_code)]
 
@@ -96,7 +98,7 @@ mod refusal;
 pub use answers::{Compared, Counts, DifferingCell, Evaluated, Located};
 pub use answers::{Quadratic, QuadraticValues, Values};
 pub use calls::{cell, check, compare, compare_quadratic, evaluate, evaluate_quadratic, locate};
-pub use calls::{moved, version};
+pub use calls::{moved, shorter, version};
 pub use constants::{KEY_LIMIT, MOST_ARRAYS, MOST_BITS, P, SHEET, SHEET_QUADRATIC, STACK, VERSION};
 pub use field::Field;
 pub use likelihood::Likelihood;

@@ -116,6 +116,16 @@ pub struct LocateReply {
     pub second_c: u32,
 }
 
+/// What `morgana_shorter` answers.
+#[repr(C)]
+#[derive(Debug, Clone, Copy, PartialEq, Eq)]
+pub struct ShorterReply {
+    /// What is handed back: 1 the first key, 2 the second, 0 the empty beginning of the first.
+    pub key: u32,
+    /// Its length in bytes; 0 where `key` is 0.
+    pub length: u64,
+}
+
 /// What `morgana_move` answers.
 #[repr(C)]
 #[derive(Debug, Clone, Copy, PartialEq, Eq)]
@@ -250,6 +260,20 @@ extern "C" {
         sheet: *mut u32,
         sheet_length: usize,
     ) -> LocateReply;
+
+    /// Compares two keys at a point, and hands back the shorter where they are the same there.
+    pub fn morgana_shorter(
+        first: *const u8,
+        first_length: usize,
+        second: *const u8,
+        second_length: usize,
+        rows: *const u32,
+        rows_length: usize,
+        columns: *const u32,
+        columns_length: usize,
+        sheet: *mut u32,
+        sheet_length: usize,
+    ) -> ShorterReply;
 
     /// Evaluates a key at a point of two numbers a coordinate and writes the six numbers of every array into the sheet.
     pub fn morgana_evaluate_quadratic(

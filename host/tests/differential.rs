@@ -16,6 +16,8 @@ mod located;
 mod moved;
 #[path = "differential/relation.rs"]
 mod relation;
+#[path = "differential/shorter.rs"]
+mod shorter;
 
 use archive::Served;
 use cases::{outcomes, run, Case};
@@ -34,6 +36,7 @@ use independent::record::{bytes, Record};
 use located::locate_case;
 use moved::move_case;
 use relation::relation;
+use shorter::shorter_case;
 
 /// Check: the counts or the refusal, on whole and damaged keys.
 #[test]
@@ -124,6 +127,19 @@ fn compare_agrees_over<F: Served + Drawn>() {
 #[test]
 fn locate_agrees() {
     two_keys_agree::<Fp>("locate", 6_000, &["same", "different"], locate_case);
+}
+
+/// Shorter: which of two keys that are the same is handed back, in whichever order of lengths, or nothing where they are
+/// different or refused, and the sheet.
+#[test]
+fn shorter_agrees() {
+    let answers = [
+        "same, first shorter",
+        "same, second shorter",
+        "same, one length",
+        "different",
+    ];
+    two_keys_agree::<Fp>("shorter", 12_000, &answers, shorter_case);
 }
 
 /// One case of a call that takes two keys.

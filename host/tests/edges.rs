@@ -30,6 +30,8 @@ mod quadratics;
 mod records;
 #[path = "edges/shapes.rs"]
 mod shapes;
+#[path = "edges/shorter.rs"]
+mod shorter;
 #[path = "edges/slices.rs"]
 mod slices;
 #[path = "edges/starred.rs"]

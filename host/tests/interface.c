@@ -58,6 +58,10 @@ LAYOUT(MorganaLocateReply, second_a, 44);
 LAYOUT(MorganaLocateReply, second_b, 48);
 LAYOUT(MorganaLocateReply, second_c, 52);
 
+_Static_assert(sizeof(MorganaShorterReply) == 16, "size of MorganaShorterReply");
+LAYOUT(MorganaShorterReply, key, 0);
+LAYOUT(MorganaShorterReply, length, 8);
+
 _Static_assert(sizeof(MorganaMoveReply) == 24, "size of MorganaMoveReply");
 LAYOUT(MorganaMoveReply, number, 0);
 LAYOUT(MorganaMoveReply, place, 8);
@@ -135,6 +139,12 @@ static void located(int line, MorganaLocateReply got, MorganaLocateReply wanted)
     want(line, "second_c", wanted.second_c, got.second_c);
 }
 
+static void shortened(int line, MorganaShorterReply got, MorganaShorterReply wanted)
+{
+    want(line, "key", wanted.key, got.key);
+    want(line, "length", wanted.length, got.length);
+}
+
 static void moved(int line, MorganaMoveReply got, MorganaMoveReply wanted)
 {
     want(line, "number", wanted.number, got.number);
@@ -208,6 +218,8 @@ static void copied(int line, size_t count, const uint8_t *bytes)
     (fresh(), compared(__LINE__, call, (MorganaCompareReply){__VA_ARGS__}))
 #define LOCATED(call, ...) \
     (fresh(), located(__LINE__, call, (MorganaLocateReply){__VA_ARGS__}))
+#define SHORTENED(call, ...) \
+    (fresh(), shortened(__LINE__, call, (MorganaShorterReply){__VA_ARGS__}))
 #define MOVED(call, ...) \
     (fresh_bytes(), moved(__LINE__, call, (MorganaMoveReply){__VA_ARGS__}))
 #define REFUSED(name, at) .number = (name), .place = (at)
@@ -382,6 +394,8 @@ static void arrays_limit(void)
             .second_a = 1, .second_b = 2, .second_c = 3);
     LOCATED(morgana_locate(single, sizeof single, key, length, ON(MORGANA_SHEET - 1)),
             REFUSED(MORGANA_SHEET_TOO_SHORT, MORGANA_SHEET));
+    SHORTENED(morgana_shorter(key, length, key, length, ON(MORGANA_SHEET)), 1, length);
+    SHORTENED(morgana_shorter(key, length, key, length, ON(MORGANA_SHEET - 1)), 0, 0);
     QUADRATIC(morgana_evaluate_quadratic(key, length, ON(MORGANA_SHEET_QUADRATIC)),
               0, 0, 0, 0, 0, 0, 0, 0, 0);
     QUADRATIC(morgana_evaluate_quadratic(key, length, ON(MORGANA_SHEET_QUADRATIC - 1)),
@@ -634,6 +648,85 @@ static void locate_calls(void)
     UNTOUCHED();
 }
 
+static void shorter_calls(void)
+{
+    uint8_t copy[LENGTH], other[LENGTH], plain[sizeof single], twice[34];
+    memcpy(copy, sample, LENGTH);
+    memcpy(other, sample, LENGTH);
+    other[15] = 6;
+    memcpy(plain, single, sizeof single);
+    plain[0] = 7;
+    /* `single` with two empty arrays before its own. */
+    memcpy(twice, single, 6);
+    memcpy(twice + 6, single + 3, 3);
+    memcpy(twice + 9, single + 3, sizeof single - 3);
+#define SHORTER(first, first_length, second, second_length, rows, rows_length, columns, \
+                columns_length, length, ...) \
+    SHORTENED(morgana_shorter(first, first_length, second, second_length, rows, rows_length, \
+                              columns, columns_length, sheet, length), __VA_ARGS__)
+    /* One length: the first. */
+    SHORTER(sample, LENGTH, copy, LENGTH, three, 1, four, 1, PLACES, 1, LENGTH);
+    SHEET(20, 28, 0, 2147483567, 2147483535, 0);
+    SHORTER(sample, LENGTH, sample, LENGTH, three, 1, four, 1, 6, 1, LENGTH);
+    SHEET(20, 28, 0, 2147483567, 2147483535, 0);
+    SHORTER(scaled, SCALED_LENGTH, negated, sizeof negated, three, 1, four, 1, PLACES,
+            1, SCALED_LENGTH);
+    SHEET(20, 28, 0, 2147483567, 2147483535, 0);
+    SHORTER(single, sizeof single, plain, sizeof plain, NULL, 0, NULL, 0, 3, 1, sizeof single);
+    SHEET(1, 2, 3);
+    SHORTER(single, sizeof single, grown, sizeof grown, three, 1, four, 1, PLACES,
+            1, sizeof single);
+    SHEET(6, 12, 18);
+    SHORTER(grown, sizeof grown, single, sizeof single, three, 1, four, 1, 3, 1, sizeof grown);
+    SHEET(1, 2, 3);
+    /* Two lengths: the shorter, wherever it stands. */
+    SHORTER(sample, LENGTH, scaled, SCALED_LENGTH, three, 1, four, 1, PLACES, 1, LENGTH);
+    SHEET(20, 28, 0, 2147483567, 2147483535, 0);
+    SHORTER(scaled, SCALED_LENGTH, sample, LENGTH, three, 1, four, 1, PLACES, 2, LENGTH);
+    SHEET(20, 28, 0, 2147483567, 2147483535, 0);
+    SHORTER(twice, sizeof twice, single, sizeof single, NULL, 0, NULL, 0, PLACES,
+            2, sizeof single);
+    SHEET(1, 2, 3, 0, 0, 0, 1, 2, 3);
+    SHORTER(single, sizeof single, twice, sizeof twice, NULL, 0, NULL, 0, 9, 1, sizeof single);
+    SHEET(0, 0, 0, 0, 0, 0, 1, 2, 3);
+    SHORTER(twice, sizeof twice, grown, sizeof grown, three, 1, four, 1, PLACES,
+            2, sizeof grown);
+    SHEET(6, 12, 18, 0, 0, 0, 1, 2, 3);
+    /* Different: nothing, and the sheet of the comparison. */
+    SHORTER(sample, LENGTH, other, LENGTH, three, 1, four, 1, 6, 0, 0);
+    SHEET(24, 28, 0, 2147483551, 2147483535, 0);
+    SHORTER(other, LENGTH, scaled, SCALED_LENGTH, three, 1, four, 1, PLACES, 0, 0);
+    SHEET(20, 28, 0, 2147483567, 2147483535, 0);
+    SHORTER(sample, LENGTH, empty, sizeof empty, three, 1, four, 1, PLACES, 0, 0);
+    SHEET(0, 0, 0, 2147483567, 2147483535, 0);
+    SHORTER(displaced, sizeof displaced, single, sizeof single, three, 1, four, 1, PLACES, 0, 0);
+    SHEET(1, 2, 3);
+    /* Refused: nothing, and the sheet as it was. */
+    SHORTENED(morgana_shorter(NULL, 0, NULL, 0, NULL, 0, NULL, 0, NULL, 0), 0, 0);
+    SHORTER(unknown, 1, sample, LENGTH, three, 1, four, 1, PLACES, 0, 0);
+    UNTOUCHED();
+    SHORTER(NULL, 0, sample, LENGTH, three, 1, four, 1, PLACES, 0, 0);
+    UNTOUCHED();
+    SHORTER(sample, LENGTH, sample, LENGTH - 1, three, 1, four, 1, PLACES, 0, 0);
+    UNTOUCHED();
+    SHORTER(sample, LENGTH + 1, sample, LENGTH, three, 1, four, 1, PLACES, 0, 0);
+    UNTOUCHED();
+    SHORTER(sample, LENGTH, NULL, 0, three, 1, four, 1, PLACES, 0, 0);
+    UNTOUCHED();
+    SHORTER(sample, LENGTH, scaled, SCALED_LENGTH, NULL, 0, four, 1, PLACES, 0, 0);
+    UNTOUCHED();
+    SHORTER(scaled, SCALED_LENGTH, sample, LENGTH, three, 1, four, 2, PLACES, 0, 0);
+    UNTOUCHED();
+    SHORTER(sample, LENGTH, scaled, SCALED_LENGTH, prime, 1, four, 1, PLACES, 0, 0);
+    UNTOUCHED();
+    SHORTER(scaled, SCALED_LENGTH, sample, LENGTH, three, 1, prime, 1, PLACES, 0, 0);
+    UNTOUCHED();
+    SHORTER(sample, LENGTH, scaled, SCALED_LENGTH, three, 1, four, 1, 5, 0, 0);
+    UNTOUCHED();
+    SHORTER(single, sizeof single, twice, sizeof twice, NULL, 0, NULL, 0, 8, 0, 0);
+    UNTOUCHED();
+}
+
 static void evaluate_quadratic_calls(void)
 {
 #define EVALUATE(key, key_length, rows, rows_length, columns, columns_length, length, ...) \
@@ -787,6 +880,7 @@ int main(void)
     cell_calls();
     compare_calls();
     locate_calls();
+    shorter_calls();
     evaluate_quadratic_calls();
     compare_quadratic_calls();
     move_calls();

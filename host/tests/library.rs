@@ -1,7 +1,7 @@
 //! The safe functions give each field of the library's replies its name.
 
 use morgana::{cell, check, compare, compare_quadratic, evaluate, evaluate_quadratic};
-use morgana::{locate, moved, CompareRefusal, Compared, Refusal, Which, P};
+use morgana::{locate, moved, shorter, CompareRefusal, Compared, Refusal, Which, P};
 use morgana::{DifferingCell, Located, Values};
 use morgana::{KEY_LIMIT, MOST_ARRAYS, MOST_BITS, SHEET, SHEET_QUADRATIC, VERSION};
 
@@ -163,6 +163,37 @@ fn locate_answers_the_cell_and_leaves_the_second_key_over_the_first() {
 }
 
 #[test]
+fn shorter_hands_back_the_lent_slice_and_leaves_the_second_key_over_the_first() {
+    let longer = scaled(P - 1, 3);
+    let hands = |first, second, wanted: &[u8], left| {
+        let mut sheet = LENT;
+        let part = shorter(first, second, &[3], &[4], &mut sheet);
+        assert!(std::ptr::eq(part, wanted));
+        assert_eq!(sheet, left);
+    };
+    let both = [20, 28, 0, 2147483567, 2147483535, 0, 107, 108];
+    hands(&SAMPLE, &longer, &SAMPLE, both);
+    hands(&longer, &SAMPLE, &SAMPLE, both);
+    let (same, copy) = (SAMPLE, SAMPLE);
+    hands(&same, &copy, &same, both);
+    hands(&copy, &same, &copy, both);
+    let left = [0, 0, 0, 2147483567, 2147483535, 0, 107, 108];
+    hands(&SAMPLE, &EMPTY, &SAMPLE[..0], left);
+    hands(&EMPTY, &SAMPLE, &EMPTY[..0], both);
+    hands(&SAMPLE[..52], &SAMPLE, &SAMPLE[..0], LENT);
+    hands(&longer, &longer[..60], &longer[..0], LENT);
+}
+
+#[test]
+fn what_is_handed_back_outlives_the_point_and_the_sheet() {
+    let kept = {
+        let (rows, columns, mut sheet) = (vec![3], vec![4], vec![0; 6]);
+        shorter(&SAMPLE, &SAMPLE, &rows, &columns, &mut sheet)
+    };
+    assert_eq!(kept, SAMPLE);
+}
+
+#[test]
 fn both_parts_have_their_names() {
     let mut sheet = [9; 13];
     let answer = evaluate_quadratic(&SAMPLE, &[3, 1], &[4, 2], &mut sheet).expect("it fits");
@@ -224,6 +255,7 @@ fn a_refused_call_leaves_the_sheet() {
             (refused.which, told(refused.refusal)),
             (Which::Neither, wanted)
         );
+        assert_eq!(shorter(&SAMPLE, &SAMPLE, rows, columns, sheet), []);
     }
     let cell_of =
         |row, column, sheet: &mut [u32]| cell(&SAMPLE, row, column, sheet).err().map(told);

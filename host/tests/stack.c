@@ -231,10 +231,11 @@ static void lend(const Key *one, const Key *other, size_t numbers, int fault)
     sheet_length = fault == SHEET_WRONG ? 1 : MORGANA_SHEET_QUADRATIC;
 }
 
-/* What a call gives: the number of the refusal, and the count of factors where it has one. */
+/* What a call gives: the number of the refusal, the count of factors and the length of what it hands
+ * back, each 0 where its reply has none. */
 typedef struct Got {
     uint32_t number;
-    uint64_t factors;
+    uint64_t factors, length;
 } Got;
 
 /* The calls, each on the keys that are lent. */
@@ -252,7 +253,7 @@ static void evaluate(void)
     MorganaEvaluateReply reply =
         morgana_evaluate(first->bytes, first->length, rows, rows_length, columns, columns_length,
                          sheet, sheet_length);
-    got = (Got){reply.number, reply.factors};
+    got = (Got){.number = reply.number, .factors = reply.factors};
 }
 
 static void evaluate_quadratic(void)
@@ -260,14 +261,14 @@ static void evaluate_quadratic(void)
     MorganaQuadraticReply reply =
         morgana_evaluate_quadratic(first->bytes, first->length, rows, rows_length, columns,
                                    columns_length, sheet, sheet_length);
-    got = (Got){reply.number, reply.factors};
+    got = (Got){.number = reply.number, .factors = reply.factors};
 }
 
 static void cell(void)
 {
     MorganaEvaluateReply reply =
         morgana_cell(first->bytes, first->length, row, 0, sheet, sheet_length);
-    got = (Got){reply.number, reply.factors};
+    got = (Got){.number = reply.number, .factors = reply.factors};
 }
 
 static void move(void)
@@ -280,7 +281,7 @@ static void compare(void)
     MorganaCompareReply reply =
         morgana_compare(first->bytes, first->length, second->bytes, second->length, rows,
                         rows_length, columns, columns_length, sheet, sheet_length);
-    got = (Got){reply.number, reply.factors};
+    got = (Got){.number = reply.number, .factors = reply.factors};
 }
 
 static void compare_quadratic(void)
@@ -288,7 +289,7 @@ static void compare_quadratic(void)
     MorganaCompareReply reply =
         morgana_compare_quadratic(first->bytes, first->length, second->bytes, second->length, rows,
                                   rows_length, columns, columns_length, sheet, sheet_length);
-    got = (Got){reply.number, reply.factors};
+    got = (Got){.number = reply.number, .factors = reply.factors};
 }
 
 static void locate(void)
@@ -296,7 +297,15 @@ static void locate(void)
     MorganaLocateReply reply =
         morgana_locate(first->bytes, first->length, second->bytes, second->length, rows,
                        rows_length, columns, columns_length, sheet, sheet_length);
-    got = (Got){reply.number, 0};
+    got = (Got){.number = reply.number};
+}
+
+static void shorter(void)
+{
+    MorganaShorterReply reply =
+        morgana_shorter(first->bytes, first->length, second->bytes, second->length, rows,
+                        rows_length, columns, columns_length, sheet, sheet_length);
+    got = (Got){.length = reply.length};
 }
 
 /* The bytes of stack that a call needs. */
@@ -315,7 +324,8 @@ typedef struct Call {
 } Call;
 
 enum {
-    CHECK, CELL, MOVE, EVALUATE, EVALUATE_QUADRATIC, COMPARE, COMPARE_QUADRATIC, LOCATE, CALLS
+    CHECK, CELL, MOVE, EVALUATE, EVALUATE_QUADRATIC, COMPARE, COMPARE_QUADRATIC, LOCATE, SHORTER,
+    CALLS
 };
 static Call all[CALLS] = {
     {.name = "morgana_check", .run = check, .numbers = 1},
@@ -326,6 +336,7 @@ static Call all[CALLS] = {
     {.name = "morgana_compare", .run = compare, .numbers = 1, .counted = 2},
     {.name = "morgana_compare_quadratic", .run = compare_quadratic, .numbers = 2, .counted = 2},
     {.name = "morgana_locate", .run = locate, .numbers = 1},
+    {.name = "morgana_shorter", .run = shorter, .numbers = 1},
 };
 
 /* Ends the program where something is not as wanted. */
@@ -402,12 +413,24 @@ static uint64_t factors_of(const Call *call, uint32_t number)
     return number != 0 ? 0 : one + other + (call->counted > 1 ? unused : 0);
 }
 
-/* Wants a call to give the number and the count of factors and to keep to the stack, and counts
- * what it needs. */
+/* The length of what a call hands back where compare gives a number: of a key and itself that key, and
+ * of two keys the shorter or nothing, as they are the same or not. */
+static uint64_t length_of(const Call *call, uint32_t number, uint64_t is)
+{
+    if (call->run != shorter || number != 0 || (first != second && is == 0))
+        return 0;
+    return first->length < second->length ? first->length : second->length;
+}
+
+/* Wants a call to give the number, which morgana_shorter has not, the count of factors and the length
+ * and to keep to the stack, and counts what it needs. */
 static void hold(Call *call, uint32_t wanted)
 {
     Told told = run_apart(call);
-    if (told.got.number != wanted)
+    uint64_t length = length_of(call, wanted, told.got.length);
+    if (told.got.length != length)
+        fail(call->name, "length", length, told.got.length);
+    if (call->run != shorter && told.got.number != wanted)
         fail(call->name, "number", wanted, told.got.number);
     if (told.got.factors != factors_of(call, wanted))
         fail(call->name, "factors", factors_of(call, wanted), told.got.factors);

@@ -14,6 +14,7 @@ comparisons          what compare answers
 comparison_refusals  what refuses compare, and in which order
 locations            what locate answers
 location_refusals    what refuses locate, and in which order
+shorters             which key shorter hands back
 counts               compare at every point of a list of values, by closed forms
 towers               keys too large to unroll, with their closed forms
 editions             the cases of edition 2, and of the move

@@ -12,6 +12,7 @@ from tests.model.fields import PRIME
 from tests.model.keys import read
 from tests.model.locate import locate
 from tests.model.records import LAYOUT, Refusal
+from tests.model.shorter import handed_back, shorter
 from tests.model.words import agreed, key, listed, outcome, words
 
 OPERATIONS = {
@@ -29,7 +30,11 @@ OPERATIONS = {
     "compare_quadratic": 12,
     "move": 13,
     "locate": 14,
+    "shorter": 15,
 }
+
+# The program reads fewer zeros than this, and fewer bytes of data.
+TOO_LONG = 131_072
 
 
 def array_count(data):
@@ -85,6 +90,8 @@ class Cases:
 
     def add(self, name, wanted, operation, x=0, y=0, kind=0, fields=(), zeros=0, data=b"", numbers=()):
         """One case, with the numbers of its header in the program's order; a case that is there already is left out."""
+        if max(zeros, len(data)) >= TOO_LONG:
+            raise ValueError(f"the program does not read so much: {name}")
         text = f"{name} | wanted {wanted} | got ".encode()
         five = [*fields, 0, 0, 0, 0, 0][:5]
         header = struct.pack("<BHQQB5III", OPERATIONS[operation], len(text), x, y, kind, *five, zeros, len(data))
@@ -175,6 +182,19 @@ class Cases:
         behind = f" at rows {listed(rows)} columns {listed(columns)} on sheet {listed(sheet)}"
         counts = (len(rows), len(columns), len(sheet))
         self.add_pair("locate", (first, second), keys, behind, answer, counts, [*rows, *columns, *sheet])
+
+    def shorter(self, first, second, rows, columns, wanted=None, sheet=None, known=None):
+        """The shorter of two keys in words, asked for at a point. `wanted` is the key that is handed back, 1 or 2, or 0 for the
+        empty beginning of the first, where it is known without the model; `known` as for compare.
+        """
+        keys = key(first), key(second)
+        sheet = lent(PRIME, *keys) if sheet is None else sheet
+        answer = shorter(*keys, rows, columns, sheet, known)
+        if wanted is not None:
+            agreed(handed_back(wanted, len((b"", *keys)[wanted])), answer.partition(" sheet")[0])
+        behind = f" at rows {listed(rows)} columns {listed(columns)} on sheet {listed(sheet)}"
+        counts = (len(rows), len(columns), len(sheet))
+        self.add_pair("shorter", (first, second), keys, behind, answer, counts, [*rows, *columns, *sheet])
 
     def count(self, first, second, bits, values, said, name):
         """Comparisons of two keys in words at every point of so many row and column coordinates that are among the values,

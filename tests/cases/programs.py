@@ -20,6 +20,7 @@ from .locations import location_cases
 from .quadratic.sweep import quadratic_cases
 from .records import put_cases, take_cases
 from .refusals import refusal_cases
+from .shorters import shorter_cases
 
 CRATES = pathlib.Path(__file__).resolve().parents[2] / "crates"
 
@@ -40,6 +41,7 @@ def public_cases():
     factor_cases(cases, draw)
     grown_cases(cases, draw)
     location_cases(cases, draw)
+    shorter_cases(cases, draw)
     return cases
 
 

@@ -9,7 +9,7 @@ from .places import soname_of
 
 EXAMPLE = "examples/c/compare.c"
 CALLS = ["version", "check", "cell", "move"]
-CALLS += ["evaluate", "evaluate_quadratic", "compare", "compare_quadratic", "locate"]
+CALLS += ["evaluate", "evaluate_quadratic", "compare", "compare_quadratic", "locate", "shorter"]
 
 OLD = bytes.fromhex(
     "010101 020001 04 00000000 01000000 05000000 07000000 00000000"
@@ -23,7 +23,7 @@ VALUES = "a 2147483567 b 2147483535 c 0 factors 3"
 
 # Two keys by name, what the example prints for them, and its status.
 COMPARED = [
-    ("old", "new", "same\n", 0),
+    ("old", "new", "same\nkeep the second, 28 bytes\n", 0),
     ("old", "wrong", "different\nat row 0, column 1\nfirst A 10 B 14 C 0\nsecond A 10 B 15 C 0\n", 1),
     ("cut", "new", "refused 2 at 30; first key\n", 2),
     ("old", "cut", "refused 2 at 30; second key\n", 2),

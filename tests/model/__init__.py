@@ -12,4 +12,5 @@ pairs    two keys of any shapes: the coordinates that each does not use, and wha
 words    keys, numbers and answers in words
 calls    what each call answers
 locate   a cell in which two keys differ
+shorter  the shorter of two keys
 """

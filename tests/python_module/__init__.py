@@ -15,6 +15,11 @@ locations  those of a cell in which two keys differ
 towers     a cell in which keys differ that nobody unrolls
 location_refusals
            what refuses to locate a difference
+shorters   those of the shorter of two keys
+shorter_sheets
+           what the shorter of two keys leaves on a sheet, and what makes it neither
+drawn_shorters
+           drawn pairs, of which the module and tests/model hand back the shorter
 factors    those of the count of factors
 answers    what answers and refusals are, and how the module describes itself
 chances    random points, and the likelihood that keys that differ pass

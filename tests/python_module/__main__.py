@@ -8,13 +8,14 @@ line and ends with status 0, or prints the first fault and ends with status 1.
 
 import sys
 
-from . import agreement, answers, chances, drawn, example, factors, keys, loading, location_refusals
-from . import locations, moves, points, shapes, sheets, threads, towers
+from . import agreement, answers, chances, drawn, drawn_shorters, example, factors, keys, loading
+from . import location_refusals, locations, moves, points, shapes, sheets, shorter_sheets, shorters
+from . import threads, towers
 from .holding import Failed, Hold
 
 PARTS = (
     agreement, answers, keys, points, sheets, moves, shapes, locations, towers, location_refusals,
-    factors, chances, threads, loading, example,
+    shorters, shorter_sheets, drawn_shorters, factors, chances, threads, loading, example,
 )
 
 

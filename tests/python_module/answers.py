@@ -13,7 +13,7 @@ from .subject import morgana
 
 P = morgana.P
 COUNTS = {"arrays": 2, "cells": 1, "calls": 2, "rows": 1, "columns": 1}
-EXAMPLES = 27
+EXAMPLES = 30
 
 
 def hold_answers(hold):

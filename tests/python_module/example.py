@@ -27,25 +27,31 @@ BOUND = "keys that differ would pass with probability at most"
 NONE = "A 0 B 0 C 0"
 
 
+def same(bound, kept):
+    """What is printed of keys that are the same: the bound, and which of them is the shorter, with its bytes."""
+    return f"same\n{BOUND} {bound}\nkeep the {kept} bytes\n"
+
+
 def differing(row, column, first, second):
     """What is printed of keys that differ in a cell."""
     return f"different\nrow {row}, column {column}\nfirst {first}\nsecond {second}\n"
 
 
 CASES = (
-    ("old new", 0, f"same\n{BOUND} 4.4e-19\n"),
-    ("new old", 0, f"same\n{BOUND} 4.4e-19\n"),
-    ("greatest greatest", 0, f"same\n{BOUND} 1.4e-17\n"),
-    ("shortest shortest", 0, f"same\n{BOUND} 0\n"),
+    ("old new", 0, same("4.4e-19", "second, 28")),
+    ("new old", 0, same("4.4e-19", "first, 28")),
+    ("greatest greatest", 0, same("1.4e-17", "first, 28")),
+    ("shortest shortest", 0, same("0", "first, 7")),
     ("old wrong", 1, differing(0, 1, "A 10 B 14 C 0", "A 10 B 15 C 0")),
     ("wrong old", 1, differing(0, 1, "A 10 B 15 C 0", "A 10 B 14 C 0")),
     ("cut new", 2, "refused 2 at 30: record missing or cut off; first key\n"),
     ("old cut", 2, "refused 2 at 30: record missing or cut off; second key\n"),
     ("empty cut", 2, "refused 2 at 0: record missing or cut off; first key\n"),
     ("old long", 2, "refused 1 at 65536: key over 65,536 bytes; second key\n"),
-    ("old tall", 0, f"same\n{BOUND} 6.6e-19\n"),
-    ("wide old", 0, f"same\n{BOUND} 8.7e-19\n"),
-    ("wide tall", 0, f"same\n{BOUND} 1.1e-18\n"),
+    ("old tall", 0, same("6.6e-19", "second, 28")),
+    ("wide old", 0, same("8.7e-19", "first, 42")),
+    ("wide tall", 0, same("1.1e-18", "second, 28")),
+    ("tall new", 0, same("6.6e-19", "first, 28")),
     ("displaced old", 1, differing(0, 1, NONE, "A 10 B 14 C 0")),
     ("old displaced", 1, differing(0, 1, "A 10 B 14 C 0", NONE)),
     ("shortest old", 1, differing(0, 1, NONE, "A 10 B 14 C 0")),

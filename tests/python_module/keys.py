@@ -36,7 +36,7 @@ def hold_no_keys(hold):
         hold.raises(f"cell of {thing!r}", TypeError, morgana.cell, thing, 0, 0)
         for call in (morgana.evaluate, morgana.evaluate_quadratic):
             hold.raises(f"{call} of {thing!r}", TypeError, call, thing, [3], [4])
-        for call in (morgana.compare, morgana.locate, morgana.compare_quadratic):
+        for call in (morgana.compare, morgana.locate, morgana.shorter, morgana.compare_quadratic):
             hold.raises(f"{call} of {thing!r}", TypeError, call, thing, samples.OLD, [3], [4])
             hold.raises(f"{call} with {thing!r}", TypeError, call, samples.OLD, thing, [3], [4])
 

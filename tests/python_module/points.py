@@ -50,7 +50,7 @@ def hold_negative(hold):
         for point in (([number], [4]), ([3], [number]), ([3, number], [4]), ([P], [number])):
             for call in (morgana.evaluate, morgana.evaluate_quadratic):
                 hold.raises("a negative number", ValueError, call, samples.OLD, *point)
-            for call in (morgana.compare, morgana.locate, morgana.compare_quadratic):
+            for call in (morgana.compare, morgana.locate, morgana.shorter, morgana.compare_quadratic):
                 hold.raises("a negative number", ValueError, call, samples.OLD, samples.NEW, *point)
         hold.raises("a negative row", ValueError, morgana.cell, samples.OLD, number, 0)
         hold.raises("a negative column", ValueError, morgana.cell, samples.OLD, 0, number)

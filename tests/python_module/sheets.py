@@ -19,6 +19,7 @@ CALLS = (
     (morgana.evaluate_quadratic, (samples.OLD, *samples.PARTS)),
     (morgana.compare_quadratic, (samples.OLD, samples.NEW, *samples.PARTS)),
 )
+SHORTER = morgana.shorter, (samples.OLD, samples.NEW, *POINT)
 
 
 def flat(view):
@@ -80,7 +81,7 @@ def hold_no_sheets(hold):
     """What is no sheet raises TypeError, and is left alone."""
     for sheet in no_sheets():
         before = contents(sheet)
-        for call, arguments in CALLS:
+        for call, arguments in (*CALLS, SHORTER):
             hold.raises(f"{call} on {sheet!r}", TypeError, call, *arguments, sheet)
         hold.equal(f"{sheet!r} afterwards", before, contents(sheet))
 
@@ -109,6 +110,7 @@ def hold_own(hold):
     hold.true("compare over p*p", morgana.compare_quadratic(key, key, [], []).same)
     hold.equal("no cell", None, morgana.locate(key, key, [], []))
     hold.true("a cell", morgana.locate(key, samples.SHORTEST, [], []).first == values)
+    hold.true("the first", morgana.shorter(key, key, [], []) is key)
     for places, call in (
         (3072, morgana.compare), (3072, morgana.locate), (6144, morgana.compare_quadratic),
     ):

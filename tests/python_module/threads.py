@@ -20,6 +20,7 @@ def answered(number):
         (morgana.compare, (samples.LONGEST, samples.MOST_ARRAYS, [], [])),
         (morgana.evaluate, (samples.GREATEST, [number] * 30, [number] * 30)),
         (morgana.locate, (samples.GREATEST, samples.OLD, [number] * 30, [number] * 30)),
+        (morgana.shorter, (samples.OLD, samples.TALL, [number] * 2, [number])),
         (morgana.evaluate_quadratic, (samples.OLD, [number, 2], [4, 5])),
         (morgana.compare_quadratic, (samples.LONGEST, samples.LONGEST, [], [])),
     )

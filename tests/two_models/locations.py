@@ -1,11 +1,9 @@
 """Drawn pairs of keys of any shapes, in which both models locate a difference."""
 
-import collections
 import itertools
 
-from tests.draw.changes import damaged, with_cells
-from tests.draw.keys import drawn_key, encoded
-from tests.draw.numbers import Draw, drawn_edges, drawn_point, numbered, spoiled
+from tests.draw.changes import with_cells
+from tests.draw.numbers import numbered, spoiled
 from tests.model.fields import PRIME
 from tests.model.locate import locate, located
 from tests.model.words import outcome, refused
@@ -14,11 +12,8 @@ from tests.unroll.dense import filled
 from tests.unroll.keys import Refused, check, larger_shape
 from tests.unroll.locate import locate_on
 
-from .holding import Failed, hold, hold_outcomes
-from .pairs import NAMED, SHAPES, differing, drawn_counts, drawn_pair, others
-
-KEYS = 250
-POINTS = drawn_point, drawn_edges
+from .holding import Failed, hold
+from .pairs import NAMED, SHAPES, differing, drawn_counts, hold_drawn_pairs, others
 
 # What must occur, with the least number of times: the refusals of either key; for each difference of shapes the answers and the
 # refusals of neither key; and cells beyond the rows of a key, beyond its columns and beyond both, cells behind others that
@@ -123,13 +118,4 @@ def hold_pair(draw, pair, make_point, counts):
 
 def hold_locations():
     """Holds all drawn pairs, and returns how many there were."""
-    draw, counts, cases = Draw(), collections.Counter(), 0
-    for _ in range(KEYS):
-        records = drawn_key(draw, 4, draw.below(2))
-        choices = compared(draw, records)
-        for data, make_point in itertools.product((encoded(records), *damaged(draw, records)), POINTS):
-            hold_pair(draw, drawn_pair(draw, data, records, choices), make_point, counts)
-            cases += 1
-    for outcomes, least in OUTCOMES:
-        hold_outcomes("locate", outcomes, counts, least)
-    return cases
+    return hold_drawn_pairs("locate", compared, hold_pair, OUTCOMES)

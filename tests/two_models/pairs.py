@@ -1,10 +1,11 @@
 """Drawn pairs of keys of any shapes, compared by both models."""
 
+import collections
 import itertools
 
-from tests.draw.changes import grown, in_other_edition, nearly, rewritten
+from tests.draw.changes import damaged, grown, in_other_edition, nearly, rewritten
 from tests.draw.keys import drawn_key, encoded
-from tests.draw.numbers import drawn_place, numbered, spoiled
+from tests.draw.numbers import Draw, drawn_edges, drawn_place, drawn_point, numbered, spoiled
 from tests.model.calls import compare
 from tests.model.pairs import most_bits
 from tests.model.words import counted, outcome, refused
@@ -12,7 +13,10 @@ from tests.unroll.calls import compare_on
 from tests.unroll.factors import factors_of_both
 from tests.unroll.keys import HEADS, Refused, check, larger_shape
 
-from .holding import Failed, hold
+from .holding import Failed, hold, hold_outcomes
+
+KEYS = 250
+POINTS = drawn_point, drawn_edges
 
 # How the shapes of two keys differ: crossed ones, in that one key has more rows and the other more columns.
 SHAPES = "equal", "rows", "columns", "both", "crossed"
@@ -80,6 +84,22 @@ def drawn_pair(draw, data, records, compared):
 def drawn_counts(draw, heads, field):
     """How many numbers a point has on each side: of both keys, or one time in eight of one of them."""
     return field.counts((*heads, *[most_bits(*heads)] * 14)[draw.below(16)])
+
+
+def hold_drawn_pairs(call, choose, hold_each, outcomes):
+    """Holds a call on drawn pairs of a key, which may be damaged, and of those that `choose` draws for it, and returns how many
+    there were. Each of the outcomes must have occurred so often.
+    """
+    draw, counts, pairs = Draw(), collections.Counter(), 0
+    for _ in range(KEYS):
+        records = drawn_key(draw, 4, draw.below(2))
+        choices = choose(draw, records)
+        for data, make_point in itertools.product((encoded(records), *damaged(draw, records)), POINTS):
+            hold_each(draw, drawn_pair(draw, data, records, choices), make_point, counts)
+            pairs += 1
+    for each, least in outcomes:
+        hold_outcomes(call, each, counts, least)
+    return pairs
 
 
 def hold_pair(draw, pair, make_point, counts, field, over):

@@ -3,9 +3,10 @@
 //!
 //!     cargo run --release -- OLD NEW
 //!
-//! Prints `same`, `different` with a cell in which the keys differ, or the
-//! refusal, and ends with 0, 1 or 2; with 3 where anything else is wrong. (An
-//! output that is closed from the start is /dev/null to a Rust program.)
+//! Prints `same` with the shorter key, `different` with a cell in which the
+//! keys differ, or the refusal, and ends with 0, 1 or 2; with 3 where anything
+//! else is wrong. (An output that is closed from the start is /dev/null to a
+//! Rust program.)
 
 use morgana::{CompareRefusal, DifferingCell, Field, Likelihood, Located, Point, RandomPoints};
 use std::error::Error;
@@ -21,9 +22,12 @@ fn main() -> ExitCode {
         _ => Err("usage: compare OLD NEW".into()),
     };
     let (status, text) = match compared {
-        Ok(Answer::Same(bound)) => (
+        Ok(Answer::Same(bound, shorter)) => (
             0,
-            format!("same\nkeys that differ would pass with probability at most {bound}"),
+            format!(
+                "same\nkeys that differ would pass with probability at most {bound}\n\
+                 keep the {shorter}"
+            ),
         ),
         Ok(Answer::Different(Located::Differs(cell))) => (1, different(cell)),
         Ok(Answer::Different(_)) => (1, "different".to_owned()),
@@ -51,8 +55,9 @@ fn different(cell: DifferingCell) -> String {
 
 /// What is found of two keys.
 enum Answer {
-    /// They are the same, and so unlikely is it that keys that differ pass.
-    Same(Likelihood),
+    /// They are the same, so unlikely is it that keys that differ pass, and
+    /// this is the shorter one with its length.
+    Same(Likelihood, String),
     /// They are different, and this is what locate answers of them.
     Different(Located),
 }
@@ -70,18 +75,27 @@ fn compare(old: &OsString, new: &OsString) -> Result<Answer, Box<dyn Error>> {
     let count = Likelihood::points(field, row_bits + column_bits);
     let mut points = RandomPoints::new(row_bits, column_bits, field)?;
     let mut sheet = [0; morgana::SHEET_QUADRATIC];
+    let mut shorter = &old[..0];
     for _ in 0..count {
         let Point { rows, columns } = points.draw()?;
-        if !morgana::compare_quadratic(&old, &new, &rows, &columns, &mut sheet)?.same {
-            // Locate takes a point over p. At the u of a random point keys that
-            // differ are found the same less than once in 35 million times.
-            let (rows, columns) = (keep_u(&rows), keep_u(&columns));
+        let same = morgana::compare_quadratic(&old, &new, &rows, &columns, &mut sheet)?.same;
+        // Shorter and locate take a point over p. At the u of a random point
+        // keys that differ are found the same less than once in 35 million
+        // times; where they are different there, the shorter is empty.
+        let (rows, columns) = (keep_u(&rows), keep_u(&columns));
+        shorter = morgana::shorter(&old, &new, &rows, &columns, &mut sheet);
+        if !same || shorter.is_empty() {
             let located = morgana::locate(&old, &new, &rows, &columns, &mut sheet)?;
             return Ok(Answer::Different(located));
         }
     }
+    let name = match std::ptr::eq(shorter, &new[..]) {
+        true => "new",
+        false => "old",
+    };
     let bound = Likelihood::new(field, row_bits + column_bits, count);
-    Ok(Answer::Same(bound))
+    let shorter = format!("{name}, {} bytes", shorter.len());
+    Ok(Answer::Same(bound, shorter))
 }
 
 /// The u of some coordinates u + v·i.

@@ -78,6 +78,17 @@ pub fn locate(
     }
 }
 
+/// What shorter hands back through the safe call.
+pub fn shorter<'a>(
+    first: &'a [u8],
+    second: &'a [u8],
+    rows: &[u32],
+    columns: &[u32],
+    sheet: &mut [u32],
+) -> &'a [u8] {
+    morgana::shorter(first, second, rows, columns, sheet)
+}
+
 /// Evaluate's answer over p² through the safe call.
 pub fn evaluate_quadratic(
     key: &[u8],

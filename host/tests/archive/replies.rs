@@ -1,10 +1,12 @@
 //! The replies as C sees them: every field, all others 0 where the answer is a refusal.
 
 use morgana::raw::{self, CheckReply, CompareReply, EvaluateReply};
-use morgana::raw::{LocateReply, MoveReply, QuadraticReply};
+use morgana::raw::{LocateReply, MoveReply, QuadraticReply, ShorterReply};
 
 use crate::independent::field::{Field, Fp, Quadratic};
-use crate::independent::{CompareRefusal, Compared, Counts, DifferingCell, Evaluated, Refusal};
+use crate::independent::{
+    CompareRefusal, Compared, Counts, DifferingCell, Evaluated, Handed, Refusal,
+};
 
 /// The reply that check gives for an answer: all other fields 0 where it is a refusal.
 pub fn check_reply(answer: Result<Counts, Refusal>) -> CheckReply {
@@ -121,6 +123,14 @@ pub fn locate_reply(answer: Result<Option<DifferingCell>, CompareRefusal>) -> Lo
     }
 }
 
+/// The reply that shorter gives for what it hands back.
+pub fn shorter_reply(handed: Handed) -> ShorterReply {
+    ShorterReply {
+        key: handed.key,
+        length: handed.length as u64,
+    }
+}
+
 /// The reply that the move gives for an answer.
 pub fn move_reply(answer: Result<usize, Refusal>) -> MoveReply {
     match answer {
@@ -211,6 +221,31 @@ pub fn raw_locate(
     // SAFETY: each pointer and length are those of a slice, and the sheet overlaps no other.
     unsafe {
         raw::morgana_locate(
+            first.as_ptr(),
+            first.len(),
+            second.as_ptr(),
+            second.len(),
+            rows.as_ptr(),
+            rows.len(),
+            columns.as_ptr(),
+            columns.len(),
+            sheet.as_mut_ptr(),
+            sheet.len(),
+        )
+    }
+}
+
+/// Shorter's reply as C sees it.
+pub fn raw_shorter(
+    first: &[u8],
+    second: &[u8],
+    rows: &[u32],
+    columns: &[u32],
+    sheet: &mut [u32],
+) -> ShorterReply {
+    // SAFETY: each pointer and length are those of a slice, and the sheet overlaps no other.
+    unsafe {
+        raw::morgana_shorter(
             first.as_ptr(),
             first.len(),
             second.as_ptr(),

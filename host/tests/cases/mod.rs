@@ -10,7 +10,7 @@ use std::ops::RangeInclusive;
 
 use crate::generator::random::Random;
 use crate::independent::field::Field;
-use crate::independent::{CompareRefusal, Compared, DifferingCell, Evaluated, Refusal};
+use crate::independent::{CompareRefusal, Compared, DifferingCell, Evaluated, Handed, Refusal};
 use crate::lent::Lent;
 
 /// The seed where `MORGANA_SEED` gives none.
@@ -166,6 +166,21 @@ pub fn compare_outcome(answer: &Result<Compared, CompareRefusal>) -> String {
 /// The outcome of an answer of locate.
 pub fn locate_outcome(answer: &Result<Option<DifferingCell>, CompareRefusal>) -> String {
     of_two(answer.map(|cell| cell.is_none()))
+}
+
+/// The outcome of what shorter hands back of two keys, of which compare gives an answer.
+pub fn shorter_outcome(
+    answer: &Result<Compared, CompareRefusal>,
+    handed: Handed,
+    keys: [&[u8]; 2],
+) -> String {
+    let tie = keys[0].len() == keys[1].len();
+    match handed.key {
+        1 if tie => String::from("same, one length"),
+        1 => String::from("same, first shorter"),
+        2 => String::from("same, second shorter"),
+        _ => compare_outcome(answer),
+    }
 }
 
 /// The outcome of an answer that two keys are the same, or are not, or of a refusal.

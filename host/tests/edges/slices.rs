@@ -4,11 +4,11 @@ use std::ptr::{null, null_mut};
 
 use crate::archive;
 use crate::independent::record::Record::Sparse;
-use crate::independent::{CompareRefusal, Compared, DifferingCell, Evaluated, Refusal};
-use crate::written::{cell, key, sample};
+use crate::independent::{CompareRefusal, Compared, DifferingCell, Evaluated, Handed, Refusal};
+use crate::written::{cell, key, sample, NOTHING};
 use morgana::raw::{morgana_cell, morgana_check, morgana_compare, morgana_evaluate};
 use morgana::raw::{morgana_compare_quadratic, morgana_evaluate_quadratic};
-use morgana::raw::{morgana_locate, morgana_move};
+use morgana::raw::{morgana_locate, morgana_move, morgana_shorter};
 
 /// The key with one array of one place.
 fn single() -> Vec<u8> {
@@ -180,6 +180,37 @@ fn nulls_of_locate() {
             second: [4, 5, 6],
         };
         assert_eq!(reply, archive::locate_reply(Ok(Some(cell))));
+    }
+    assert_eq!(sheet, [4, 5, 6, 7]);
+}
+
+/// Every slice of shorter as null, one after the other and all at once.
+#[test]
+fn nulls_of_shorter() {
+    let key = single();
+    let (bytes, length) = (key.as_ptr(), key.len());
+    let mut sheet = [7; 4];
+    let none: *const u32 = null();
+    let nothing = archive::shorter_reply(NOTHING);
+    // SAFETY: a null pointer goes with the length 0, all else is of slices.
+    unsafe {
+        let out = sheet.as_mut_ptr();
+        let reply = morgana_shorter(null(), 0, bytes, length, none, 0, none, 0, out, 4);
+        assert_eq!(reply, nothing);
+        let reply = morgana_shorter(bytes, length, null(), 0, none, 0, none, 0, out, 4);
+        assert_eq!(reply, nothing);
+        let nowhere = null_mut();
+        let reply = morgana_shorter(null(), 0, null(), 0, none, 0, none, 0, nowhere, 0);
+        assert_eq!(reply, nothing);
+        let reply = morgana_shorter(bytes, length, bytes, length, none, 0, none, 0, nowhere, 0);
+        assert_eq!(reply, nothing);
+    }
+    assert_eq!(sheet, [7; 4]);
+    // SAFETY: as above.
+    unsafe {
+        let out = sheet.as_mut_ptr();
+        let reply = morgana_shorter(bytes, length, bytes, length, none, 0, none, 0, out, 4);
+        assert_eq!(reply, archive::shorter_reply(Handed { key: 1, length }));
     }
     assert_eq!(sheet, [4, 5, 6, 7]);
 }

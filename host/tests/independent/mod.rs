@@ -7,6 +7,7 @@
 //! - `edition`: a key moved into the other edition.
 //! - `calls`: check, evaluate, cell and compare on top of these, evaluate and compare over either field.
 //! - `locate`: a cell in which two keys differ, on top of compare and of the unrolled matrices.
+//! - `shorter`: the shorter of two keys that are the same, on top of compare.
 //! - `pass`: the same calls without unrolling, written for speed.
 
 // Each test program uses a part of these modules.
@@ -20,6 +21,7 @@ pub mod key;
 pub mod locate;
 pub mod pass;
 pub mod record;
+pub mod shorter;
 
 /// A refusal's number and place.
 #[derive(Debug, Clone, Copy, PartialEq, Eq)]
@@ -86,6 +88,21 @@ pub struct DifferingCell {
     pub column: u32,
     pub first: [u32; 3],
     pub second: [u32; 3],
+}
+
+/// What shorter hands back: `key` is 1 for the first key, 2 for the second, 0 for the empty beginning of the first.
+#[derive(Debug, Clone, Copy, PartialEq, Eq)]
+pub struct Handed {
+    pub key: u32,
+    pub length: usize,
+}
+
+impl Handed {
+    /// The part of the lent keys that it is.
+    pub fn of<'a>(&self, first: &'a [u8], second: &'a [u8]) -> &'a [u8] {
+        let key = if self.key == 2 { second } else { first };
+        &key[..self.length]
+    }
 }
 
 /// A refusal of compare or locate; `key` is 1 for the first, 2 for the second, 0 for neither.

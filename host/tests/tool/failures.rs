@@ -24,6 +24,8 @@ fn help_says_how_the_program_is_used() {
         "--quadratic",
         "--quiet",
         "--no-locate",
+        "--shorter",
+        "--keep",
         "--json",
         "What \"same\" means",
         "Exit status",

@@ -5,7 +5,7 @@ use crate::support::{Folder, Ran};
 use std::fs::File;
 use std::os::fd::OwnedFd;
 use std::os::unix::net::UnixStream;
-use std::process::{Command, Stdio};
+use std::process::Stdio;
 
 #[test]
 fn output_that_cannot_be_written_is_said() {
@@ -48,16 +48,6 @@ fn a_closed_pipe_ends_the_program_quietly() {
     }
 }
 
-/// Runs the program in a shell, with these arguments and redirections, behind a command of the shell's.
-fn in_shell(folder: &Folder, before: &str, line: &str) -> Ran {
-    let program = folder.program::<&str>(&[]);
-    let mut shell = Command::new("sh");
-    shell.args(["-c", &format!("{before}; exec \"$0\" {line}")]);
-    shell.arg(program.get_program());
-    let path = program.get_current_dir().expect("a folder");
-    Ran::of(shell.current_dir(path).output().expect("sh runs"))
-}
-
 #[test]
 fn a_closed_output_is_said() {
     let folder = Folder::new("closed", &[("sample", &sample())]);
@@ -67,7 +57,7 @@ fn a_closed_output_is_said() {
         (">/dev/null", 0),
         ("1<>/dev/null", 0),
     ] {
-        let ran = in_shell(&folder, ":", &format!("check sample {redirection}"));
+        let ran = folder.in_shell(":", &format!("check sample {redirection}"));
         match status {
             0 => ran.answers(0, ""),
             _ => ran.fails(&["cannot write to standard output: it is closed"]),
@@ -78,7 +68,7 @@ fn a_closed_output_is_said() {
 #[test]
 fn a_file_that_may_not_grow_is_said() {
     let folder = Folder::new("limit", &[("sample", &sample())]);
-    let ran = in_shell(&folder, "ulimit -f 0", "check sample > out");
+    let ran = folder.in_shell("ulimit -f 0", "check sample > out");
     ran.fails(&["cannot write to standard output: File too large"]);
 }
 
@@ -89,7 +79,7 @@ fn a_copy_that_may_not_grow_is_not_there() {
         ("move sample --to new", "new"),
         ("move sample --to kept --force", "kept"),
     ] {
-        let ran = in_shell(&folder, "ulimit -f 0", line);
+        let ran = folder.in_shell("ulimit -f 0", line);
         ran.fails(&[&format!("cannot write \"{name}\": File too large")]);
         assert_eq!(folder.names(), ["kept", "sample"]);
         assert_eq!(folder.read("kept"), b"kept");
@@ -99,7 +89,7 @@ fn a_copy_that_may_not_grow_is_not_there() {
 #[test]
 fn nothing_is_written_where_the_output_is_closed() {
     let folder = Folder::new("closed-copy", &[("sample", &sample())]);
-    let ran = in_shell(&folder, ":", "move sample --to new >&-");
+    let ran = folder.in_shell(":", "move sample --to new >&-");
     ran.fails(&["cannot write to standard output: it is closed"]);
     assert_eq!(folder.names(), ["sample"]);
 }
@@ -107,7 +97,7 @@ fn nothing_is_written_where_the_output_is_closed() {
 #[test]
 fn a_copy_that_is_written_stays_where_the_answer_cannot_be() {
     let folder = Folder::new("full-copy", &[("sample", &sample())]);
-    let ran = in_shell(&folder, ":", "move sample --to new >/dev/full");
+    let ran = folder.in_shell(":", "move sample --to new >/dev/full");
     ran.fails(&["cannot write to standard output: "]);
     assert_eq!(folder.names(), ["new", "sample"]);
     assert_eq!(folder.read("new"), scaled(1, 1));
@@ -122,7 +112,7 @@ fn a_closed_input_is_no_empty_key() {
         ("</dev/null", 2),
         ("<sample", 0),
     ] {
-        let ran = in_shell(&folder, ":", &format!("check - {redirection}"));
+        let ran = folder.in_shell(":", &format!("check - {redirection}"));
         match status {
             3 => ran.fails(&["cannot read standard input: it is closed"]),
             _ => ran.status(status),

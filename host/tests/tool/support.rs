@@ -92,6 +92,15 @@ impl Folder {
     pub fn run<S: AsRef<OsStr>>(&self, arguments: &[S]) -> Ran {
         Ran::of(self.program(arguments).output().expect("morgana runs"))
     }
+
+    /// Runs the program in a shell, with these arguments and redirections, behind a command of the shell's.
+    pub fn in_shell(&self, before: &str, line: &str) -> Ran {
+        let program = self.program::<&str>(&[]);
+        let mut shell = Command::new("sh");
+        shell.args(["-c", &format!("{before}; exec \"$0\" {line}")]);
+        shell.arg(program.get_program());
+        Ran::of(shell.current_dir(&self.0).output().expect("sh runs"))
+    }
 }
 
 impl Drop for Folder {

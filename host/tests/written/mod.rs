@@ -9,7 +9,9 @@ use crate::archive::{self, Served};
 use crate::independent::field::{Fp, Quadratic};
 use crate::independent::key;
 use crate::independent::record::{bytes, Call, Cell, Record};
-use crate::independent::{CompareRefusal, Compared, Counts, DifferingCell, Evaluated, Refusal};
+use crate::independent::{
+    CompareRefusal, Compared, Counts, DifferingCell, Evaluated, Handed, Refusal,
+};
 
 /// The prime p.
 pub const P: u32 = morgana::P;
@@ -106,6 +108,9 @@ pub fn refuses(key: &[u8], number: u32, place: u64) {
     assert_eq!(got, Err(of(1)));
     let got = locate(&sample, key, &[], &[P], &mut sheet);
     assert_eq!(got, Err(of(2)));
+    // At points that fit the sample, of which nothing else is refused.
+    assert_eq!(shorter(key, &sample, &[3], &[4], &mut sheet), NOTHING);
+    assert_eq!(shorter(&sample, key, &[3], &[4], &mut sheet), NOTHING);
     let got = evaluate_quadratic(key, &[P], &[], &mut sheet);
     assert_eq!(got, Err(refusal));
     let got = compare_quadratic(key, &sample, &[], &[P], &mut sheet);
@@ -270,6 +275,33 @@ pub fn locate(
     let same = archive::compare(first, second, rows, columns, &mut compared);
     assert_eq!(answer.map(|cell| cell.is_none()), same.map(|it| it.same));
     answer
+}
+
+/// What shorter hands back of keys that are not the same: the empty beginning of the first.
+pub const NOTHING: Handed = Handed { key: 0, length: 0 };
+
+/// What shorter hands back by the raw call; the safe call hands back that part of the lent keys, from where it begins in
+/// memory. It is empty where compare does not answer "same", and the sheet is as compare leaves it.
+pub fn shorter(
+    first: &[u8],
+    second: &[u8],
+    rows: &[u32],
+    columns: &[u32],
+    sheet: &mut [u32],
+) -> Handed {
+    let (mut other, mut compared) = (sheet.to_vec(), sheet.to_vec());
+    let part = archive::shorter(first, second, rows, columns, sheet);
+    let reply = archive::raw_shorter(first, second, rows, columns, &mut other);
+    let (key, length) = (reply.key, reply.length as usize);
+    let handed = Handed { key, length };
+    let wanted = handed.of(first, second);
+    assert_eq!(part.as_ptr_range(), wanted.as_ptr_range());
+    assert_eq!(sheet, other);
+    let answer = archive::compare(first, second, rows, columns, &mut compared);
+    let same = answer.is_ok_and(|answer| answer.same);
+    assert_eq!(part.is_empty(), !same);
+    assert_eq!(sheet, compared);
+    handed
 }
 
 /// The refusal of compare with a number, at a place, that names neither key.

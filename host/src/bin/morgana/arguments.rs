@@ -1,6 +1,6 @@
 //! What the arguments ask for.
 
-use crate::compare::{Manner, Points};
+use crate::compare::{Keep, Manner, Points};
 use crate::decimal::decimal;
 use crate::files::Name;
 use morgana::Field;
@@ -71,6 +71,9 @@ pub fn parse(mut arguments: impl Iterator<Item = OsString>) -> Result<Request, S
                 "--quadratic",
                 "--quiet",
                 "--no-locate",
+                "--shorter",
+                "--keep",
+                "--force",
                 "--json",
             ],
         ),
@@ -99,12 +102,14 @@ struct Given {
     point: Option<OsString>,
     pairs: Option<OsString>,
     to: Option<OsString>,
+    keep: Option<OsString>,
     force: bool,
     random: bool,
     points: Option<u32>,
     quadratic: bool,
     quiet: bool,
     no_locate: bool,
+    shorter: bool,
     json: bool,
 }
 
@@ -139,7 +144,8 @@ impl Given {
         value: Option<OsString>,
         arguments: &mut impl Iterator<Item = OsString>,
     ) -> Result<(), String> {
-        if value.is_some() && !["--point", "--points", "--pairs", "--to"].contains(&option) {
+        let written = ["--to", "--keep"].contains(&option);
+        if value.is_some() && !written && !["--point", "--points", "--pairs"].contains(&option) {
             return Err(format!("{option} takes no value"));
         }
         let mut value = || {
@@ -147,10 +153,10 @@ impl Given {
             let value = value.clone().or_else(|| arguments.next());
             let value = value.ok_or(format!("{option} needs a value"))?;
             // A file is written: an option behind it is more likely than such a name.
-            if option == "--to" && behind && value.as_encoded_bytes().starts_with(b"--") {
+            if written && behind && value.as_encoded_bytes().starts_with(b"--") {
                 let name = value.to_string_lossy();
                 return Err(format!(
-                    "--to needs a value; a file of that name is --to={name}"
+                    "{option} needs a value; a file of that name is {option}={name}"
                 ));
             }
             Ok(value)
@@ -159,11 +165,13 @@ impl Given {
             "--point" => self.point.replace(value()?).is_some(),
             "--pairs" => self.pairs.replace(value()?).is_some(),
             "--to" => self.to.replace(value()?).is_some(),
+            "--keep" => self.keep.replace(value()?).is_some(),
             "--points" => self.points.replace(points(&value()?)?).is_some(),
             "--force" => std::mem::replace(&mut self.force, true),
             "--quadratic" => std::mem::replace(&mut self.quadratic, true),
             "--quiet" => std::mem::replace(&mut self.quiet, true),
             "--no-locate" => std::mem::replace(&mut self.no_locate, true),
+            "--shorter" => std::mem::replace(&mut self.shorter, true),
             "--json" => std::mem::replace(&mut self.json, true),
             _ => std::mem::replace(&mut self.random, true),
         };
@@ -183,6 +191,9 @@ impl Given {
         }
         if self.pairs.is_some() && !self.names.is_empty() {
             return Err("--pairs and OLD NEW exclude each other".to_owned());
+        }
+        if self.pairs.is_some() && self.keep.is_some() {
+            return Err("--pairs and --keep exclude each other".to_owned());
         }
         let read = self.names.iter().chain(&self.point).chain(&self.pairs);
         if read.filter(|name| *name == "-").count() > 1 {
@@ -212,29 +223,20 @@ impl Given {
             },
             ("move", [key]) => Command::Move {
                 key: name(key),
-                to: self.target()?,
+                to: target("--to", self.to.as_ref().ok_or("move needs --to FILE")?)?,
                 force: self.force,
             },
             ("compare", [old, new]) if self.pairs.is_none() => Command::Compare {
                 old: name(old),
                 new: name(new),
-                manner: self.manner(),
+                manner: self.manner()?,
             },
             ("compare", []) if self.pairs.is_some() => Command::ComparePairs {
                 list: self.pairs.as_ref().map(name).ok_or(wrong)?,
-                manner: self.manner(),
+                manner: self.manner()?,
             },
             _ => return Err(wrong),
         })
-    }
-
-    /// The file that a copy goes to: a file alone, since standard output has the answer.
-    fn target(&self) -> Result<Name, String> {
-        let to = self.to.as_ref().ok_or("move needs --to FILE")?;
-        match to == "-" {
-            true => Err("--to takes a file, and standard output (-) has the answer".to_owned()),
-            false => Ok(Name::from(to)),
-        }
     }
 
     /// The field that coordinates are from.
@@ -246,8 +248,9 @@ impl Given {
     }
 
     /// How keys are to be compared.
-    fn manner(&self) -> Manner {
-        Manner {
+    fn manner(&self) -> Result<Manner, String> {
+        let keep = self.keep()?;
+        Ok(Manner {
             points: match (&self.point, self.points) {
                 (Some(file), _) => Points::File(Name::from(file)),
                 (None, Some(number)) => Points::Number(number),
@@ -256,7 +259,29 @@ impl Given {
             field: self.field(),
             quiet: self.quiet,
             locate: !self.no_locate,
+            shorter: self.shorter || keep.is_some(),
+            keep,
+        })
+    }
+
+    /// Where the shorter key is to be copied to, if it is.
+    fn keep(&self) -> Result<Option<Keep>, String> {
+        let force = self.force;
+        match &self.keep {
+            Some(file) => target("--keep", file).map(|to| Some(Keep { to, force })),
+            None if force => Err("--force needs --keep FILE".to_owned()),
+            None => Ok(None),
         }
+    }
+}
+
+/// The file that an option has a key written to: a file alone, since standard output has the answer.
+fn target(option: &str, file: &OsString) -> Result<Name, String> {
+    match file == "-" {
+        true => Err(format!(
+            "{option} takes a file, and standard output (-) has the answer"
+        )),
+        false => Ok(Name::from(file)),
     }
 }
 

@@ -26,6 +26,8 @@ fn manner(points: Points) -> Manner {
         field: Field::Prime,
         quiet: false,
         locate: true,
+        shorter: false,
+        keep: None,
     }
 }
 
@@ -107,6 +109,39 @@ fn compare_takes_a_number_of_points_or_a_file() {
         command(&["compare", "a", "--no-locate", "b"]),
         compare(bare)
     );
+}
+
+#[test]
+fn compare_names_the_shorter_key_and_keeps_it() {
+    let wanted = |keep: Option<(&str, bool)>| Manner {
+        shorter: true,
+        keep: keep.map(|(to, force)| Keep {
+            to: Name::from(to),
+            force,
+        }),
+        ..manner(Points::Enough)
+    };
+    let named = command(&["compare", "a", "--shorter", "b"]);
+    assert_eq!(named, compare(wanted(None)));
+    // What is kept is named too.
+    for words in [
+        &["compare", "a", "b", "--keep", "f"][..],
+        &["compare", "--keep=f", "a", "b"],
+        &["compare", "a", "--shorter", "b", "--keep", "f"],
+    ] {
+        assert_eq!(command(words), compare(wanted(Some(("f", false)))));
+        let forced = [words, &["--force"]].concat();
+        assert_eq!(command(&forced), compare(wanted(Some(("f", true)))));
+    }
+    for (value, file) in [("--keep=--shorter", "--shorter"), ("--keep=./-", "./-")] {
+        let kept = command(&["compare", "a", "b", value]);
+        assert_eq!(kept, compare(wanted(Some((file, false)))));
+    }
+    let words = ["compare", "a", "b", "--keep", "-f"];
+    assert_eq!(command(&words), compare(wanted(Some(("-f", false)))));
+    let (list, manner) = (Name::from("l"), wanted(None));
+    let pairs = command(&["compare", "--pairs=l", "--shorter"]);
+    assert_eq!(pairs, Command::ComparePairs { list, manner });
 }
 
 #[test]
@@ -249,6 +284,10 @@ fn what_is_wrong_is_said() {
         (&["move", "k", "--to"], "--to needs a value"),
         (&["move", "k", "--to=f", "--to=g"], "--to stands twice"),
         (
+            &["move", "k", "--to", "--force"],
+            "--to needs a value; a file of that name is --to=--force",
+        ),
+        (
             &["move", "k", "--to=f", "--force=yes"],
             "--force takes no value",
         ),
@@ -280,6 +319,51 @@ fn what_is_wrong_is_said() {
         (
             &["compare", "a", "b", "--no-locate=yes"],
             "--no-locate takes no value",
+        ),
+        (
+            &["compare", "a", "b", "--shorter", "--shorter"],
+            "--shorter stands twice",
+        ),
+        (
+            &["compare", "a", "b", "--shorter=yes"],
+            "--shorter takes no value",
+        ),
+        (&["compare", "a", "b", "--keep"], "--keep needs a value"),
+        (
+            &["compare", "a", "b", "--keep", "--force"],
+            "--keep needs a value; a file of that name is --keep=--force",
+        ),
+        (
+            &["compare", "a", "b", "--keep=f", "--keep=f"],
+            "--keep stands twice",
+        ),
+        (
+            &["compare", "a", "b", "--keep", "-"],
+            "--keep takes a file, and standard output (-) has the answer",
+        ),
+        (
+            &["compare", "a", "b", "--keep=-", "--force"],
+            "--keep takes a file, and standard output (-) has the answer",
+        ),
+        (
+            &["compare", "a", "b", "--force"],
+            "--force needs --keep FILE",
+        ),
+        (
+            &["compare", "a", "b", "--shorter", "--force"],
+            "--force needs --keep FILE",
+        ),
+        (
+            &["compare", "--pairs=l", "--force"],
+            "--force needs --keep FILE",
+        ),
+        (
+            &["compare", "--pairs=l", "--keep=f"],
+            "--pairs and --keep exclude each other",
+        ),
+        (
+            &["compare", "--keep", "f", "--pairs", "l", "--force"],
+            "--pairs and --keep exclude each other",
         ),
         (&["check", "a", "--json=yes"], "--json takes no value"),
         (
@@ -320,7 +404,12 @@ fn an_option_belongs_to_its_command() {
         &["evaluate", "k", "--points", "1"],
         &["evaluate", "k", "--pairs", "l"],
         &["evaluate", "k", "--to", "f"],
-        &["compare", "a", "b", "--force"],
+        &["evaluate", "k", "--force"],
+        &["compare", "a", "b", "--to", "f"],
+        &["check", "k", "--shorter"],
+        &["evaluate", "k", "--shorter"],
+        &["move", "k", "--to", "f", "--keep", "g"],
+        &["move", "k", "--to", "f", "--shorter"],
         &["move", "k", "--to", "f", "--quiet"],
         &["move", "k", "--to", "f", "-f"],
         &["check", "k", "--help=x"],

@@ -4,11 +4,13 @@ use crate::commands::{point_detail, refused};
 use crate::fault::detail;
 use crate::files::Name;
 use crate::locate::differing_cell;
-use crate::outcome::{About, Difference, Failure, Outcome, Refused, Source, Tried, Verdict};
+use crate::outcome::{About, Difference, Failure, Outcome, Refused, Shorter, Source};
+use crate::outcome::{Tried, Verdict};
 use crate::progress::Progress;
 use crate::shapes::Shapes;
 use morgana::{CompareRefusal, Counts, Field, Likelihood, Point, RandomPoints, Which};
-use morgana::{Compared, SHEET_QUADRATIC};
+use morgana::{Compared, SHEET, SHEET_QUADRATIC};
+use std::ptr;
 
 /// The points at which keys are to be compared.
 #[derive(Debug, Clone, PartialEq, Eq)]
@@ -32,6 +34,19 @@ pub struct Manner {
     pub quiet: bool,
     /// Whether a cell is shown in which keys differ that are different.
     pub locate: bool,
+    /// Whether the shorter of keys that are the same is named.
+    pub shorter: bool,
+    /// Where that one is copied to, if it is.
+    pub keep: Option<Keep>,
+}
+
+/// The file that the shorter of two keys is copied to.
+#[derive(Debug, Clone, PartialEq, Eq)]
+pub struct Keep {
+    /// The file.
+    pub to: Name,
+    /// Whether one that is there is replaced.
+    pub force: bool,
 }
 
 impl Manner {
@@ -60,8 +75,12 @@ pub fn compare(
         Ok(trial) => trial,
         Err(refused) => return Ok(Outcome::Refused(Vec::new(), refused)),
     };
+    if let Some(Keep { to, force }) = &manner.keep {
+        to.may_be_written(*force)?;
+    }
     if first == second {
-        return Ok(Outcome::Compared(Verdict::Identical, Vec::new()));
+        let verdict = Verdict::Identical(trial.shorter(None)?);
+        return Ok(Outcome::Compared(verdict, Vec::new()));
     }
     match given {
         Some((file, points)) => {
@@ -148,6 +167,7 @@ impl<'a> Trial<'a> {
         progress: &mut Progress,
     ) -> Result<Outcome, Failure> {
         let (mut tried, mut factors, mut used) = (0, 0, Vec::new());
+        let mut shorter = None;
         for point in points {
             let point = point?;
             tried += 1;
@@ -163,11 +183,14 @@ impl<'a> Trial<'a> {
                 let shown = (!self.manner.quiet).then_some(point);
                 return Ok(Outcome::Compared(verdict, shown.into_iter().collect()));
             }
+            if tried == count {
+                shorter = self.shorter(Some(&point))?;
+            }
             if !self.manner.quiet {
                 used.push(point);
             }
         }
-        let verdict = Verdict::Same(self.tried(tried, file, factors));
+        let verdict = Verdict::Same(self.tried(tried, file, factors), shorter);
         Ok(Outcome::Compared(verdict, used))
     }
 
@@ -179,6 +202,38 @@ impl<'a> Trial<'a> {
             point: number,
             cell: self.manner.locate.then(cell),
         }
+    }
+
+    /// The shorter of the keys, which are the same, where it is to be named; it is copied where that is asked for. Over p
+    /// the library says which it is, at a point; over p², and where no point was tried, the lengths do by the same rule.
+    fn shorter(&self, point: Option<&Point>) -> Result<Option<Shorter>, Failure> {
+        if !self.manner.shorter {
+            return Ok(None);
+        }
+        let (first, second) = (self.old.key, self.new.key);
+        let key = match (point, self.manner.field) {
+            (Some(Point { rows, columns }), Field::Prime) => {
+                morgana::shorter(first, second, rows, columns, &mut [0; SHEET])
+            }
+            _ if second.len() < first.len() => second,
+            _ => first,
+        };
+        assert!(!key.is_empty(), "keys that are the same have a shorter one");
+        let is_new = ptr::eq(key, second);
+        let kept = match &self.manner.keep {
+            Some(Keep { to, force }) => {
+                to.write(key, *force)?;
+                Some(to.clone())
+            }
+            None => None,
+        };
+        Ok(Some(Shorter {
+            is_new,
+            file: if is_new { self.new.name } else { self.old.name }.clone(),
+            old_bytes: first.len(),
+            new_bytes: second.len(),
+            kept,
+        }))
     }
 
     /// What so many points from a file, or drawn, say, and the factors of those that were tried.

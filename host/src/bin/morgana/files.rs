@@ -109,6 +109,12 @@ impl Name {
             .map_err(|error| Failure::Write(self.clone(), error))
     }
 
+    /// Fails where the file would not be written, for what is there already.
+    pub fn may_be_written(&self, force: bool) -> Result<(), Failure> {
+        whole::may_be_written(Path::new(&self.path), force)
+            .map_err(|error| Failure::Write(self.clone(), error))
+    }
+
     /// The failure that a line of the file is.
     pub fn fault(&self, line: usize, message: String) -> Failure {
         Failure::Line(self.clone(), line, message)

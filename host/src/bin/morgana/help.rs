@@ -42,7 +42,7 @@ Values are modulo p = 2147483647.
       written whole or not at all, and not at all where the move is refused.
 
   morgana compare OLD NEW [--points N | --point FILE] [--quadratic] [--quiet]
-                          [--no-locate]
+                          [--no-locate] [--shorter] [--keep FILE [--force]]
   morgana compare --pairs FILE ...
       Compares two keys, also of two shapes or editions, at random points: as
       many as bring the probability that keys that differ would pass below
@@ -57,6 +57,15 @@ Values are modulo p = 2147483647.
       new A 10 B 15 C 0
       It is found from the point; other cells, also before it, may differ too.
       With --no-locate it is left out.
+      With --shorter a line behind `same` names the file of the shorter key, the
+      old one where both have as many bytes:
+      new is shorter, 28 bytes for 53: \"new.key\"
+      With --keep FILE that key is also copied to FILE, and the line goes on:
+      new is shorter, 28 bytes for 53: \"new.key\", kept as \"small.key\"
+      A file that is there, also OLD or NEW, is replaced with --force alone.
+      FILE is written whole or not at all, and not at all where the keys are
+      different or refused. --keep takes one pair of files, not folders or
+      --pairs.
       Where one key has more row bits or column bits than the other, both are
       compared as filled with zeros, and what stands behind the verdict says so:
       old has 3 row bits, new 4: compared as filled with zeros
@@ -111,7 +120,8 @@ Factors
   columns, and cells and calls those of both keys. The line adds up all answers
   of a run, at all their points; identical files and refusals have no count,
   and where nothing has, there is no such line. To find the cell behind
-  `different` counts nothing. With --json each object has its own count.
+  `different` and to name the shorter key count nothing. With --json each object
+  has its own count.
 
 Point file
   Two lines for each point, as evaluate and compare print them; their whole

@@ -1,6 +1,7 @@
 //! Answers as lines of JSON, one object a line (docs/JSON.md).
 
-use crate::outcome::{About, Answer, Evaluation, Files, Outcome, Refused, Source, Tried, Verdict};
+use crate::outcome::{About, Answer, Evaluation, Files, Outcome, Refused, Shorter, Source};
+use crate::outcome::{Tried, Verdict};
 use crate::output::Pieces;
 use crate::points::field_name;
 use crate::records::{Edition, Record, Untaken};
@@ -258,13 +259,16 @@ fn compared<'a>(object: Object, verdict: &Verdict, points: &'a [Point]) -> Piece
 /// An object with what is found of two keys.
 fn with_verdict(object: Object, verdict: &Verdict) -> Object {
     let (object, tried) = match verdict {
-        Verdict::Identical => {
+        Verdict::Identical(shorter) => {
             let object = object.status("same").truth("certain", true);
-            return object.truth("identical", true);
+            return with_shorter(object.truth("identical", true), shorter);
         }
-        Verdict::Same(tried) => {
+        Verdict::Same(tried, shorter) => {
             let object = object.status("same").truth("certain", tried.m == 0);
-            (object.truth("identical", false), tried)
+            (
+                with_shorter(object.truth("identical", false), shorter),
+                tried,
+            )
         }
         Verdict::Different(difference, tried) => {
             let object = object.status("different").truth("certain", true);
@@ -273,6 +277,21 @@ fn with_verdict(object: Object, verdict: &Verdict) -> Object {
         }
     };
     with_tried(object, verdict, tried)
+}
+
+/// An object with the shorter of two keys, if it is named.
+fn with_shorter(object: Object, shorter: &Option<Shorter>) -> Object {
+    let Some(shorter) = shorter else {
+        return object;
+    };
+    let object = object
+        .string("shorter", if shorter.is_new { "new" } else { "old" })
+        .number("old_bytes", shorter.old_bytes)
+        .number("new_bytes", shorter.new_bytes);
+    match &shorter.kept {
+        Some(file) => object.string("kept", &file.text()),
+        None => object,
+    }
 }
 
 /// An object with a cell in which two keys differ, if there is one to show.
@@ -309,7 +328,7 @@ fn with_tried(object: Object, verdict: &Verdict, tried: &Tried) -> Object {
     let object = object.number("count", tried.count);
     match &tried.source {
         Source::File(file) => object.string("points_from", &file.text()),
-        Source::Drawn(bound) if matches!(verdict, Verdict::Same(_)) && !bound.is_zero() => {
+        Source::Drawn(bound) if matches!(verdict, Verdict::Same(..)) && !bound.is_zero() => {
             object.number("bound", bound)
         }
         Source::Drawn(_) => object,

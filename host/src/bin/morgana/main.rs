@@ -124,6 +124,9 @@ fn compare(
             progress.clear();
             output.only("compare", files, outcome)
         }
+        (Some(_), Some(_)) if manner.keep.is_some() => Err(Failure::Usage(
+            "--keep takes one pair of files, and OLD and NEW are folders".to_owned(),
+        )),
         (Some(old), Some(new)) => {
             compare_each(files, pairs::of_folders(&old, &new), manner, output)
         }

@@ -89,12 +89,27 @@ pub struct Moved {
 /// Whether two keys are the same.
 #[derive(Debug)]
 pub enum Verdict {
-    /// The files have the same bytes.
-    Identical,
-    /// The keys are the same at every point.
-    Same(Tried),
+    /// The files have the same bytes; the shorter, where it is named.
+    Identical(Option<Shorter>),
+    /// The keys are the same at every point; the shorter, where it is named.
+    Same(Tried, Option<Shorter>),
     /// The keys are different.
     Different(Difference, Tried),
+}
+
+/// The shorter of two keys that are the same.
+#[derive(Debug)]
+pub struct Shorter {
+    /// Whether it is the new one; it is the old one where both have one length.
+    pub is_new: bool,
+    /// Its file.
+    pub file: Name,
+    /// The old key's length.
+    pub old_bytes: usize,
+    /// The new key's length.
+    pub new_bytes: usize,
+    /// The file that it was copied to, if it was.
+    pub kept: Option<Name>,
 }
 
 /// Where two keys are different.
@@ -213,11 +228,19 @@ impl Verdict {
         }
     }
 
+    /// The shorter of keys that are the same, where it is named.
+    pub fn shorter(&self) -> Option<&Shorter> {
+        match self {
+            Verdict::Identical(shorter) | Verdict::Same(_, shorter) => shorter.as_ref(),
+            Verdict::Different(..) => None,
+        }
+    }
+
     /// The points at which the keys were compared; none for identical files.
     pub fn tried(&self) -> Option<&Tried> {
         match self {
-            Verdict::Identical => None,
-            Verdict::Same(tried) | Verdict::Different(_, tried) => Some(tried),
+            Verdict::Identical(_) => None,
+            Verdict::Same(tried, _) | Verdict::Different(_, tried) => Some(tried),
         }
     }
 }

@@ -9,10 +9,13 @@ use std::fmt::Write;
 const VERDICTS: [&str; 2] = ["same", "different"];
 
 /// How the other lines begin that evaluate and compare print beside the points, but for those of values and factors.
-const STARTS: [&str; 11] = [
+const STARTS: [&str; 14] = [
     "same \"",
     "different \"",
     "old has ",
+    "old is shorter, ",
+    "new is shorter, ",
+    "both have ",
     "at row ",
     "keys that differ would pass",
     "the files are identical",
@@ -225,6 +228,8 @@ mod tests {
     fn several_points_and_what_stands_beside_them_are_read() {
         let text = "different\nat row 0, column 3\nold A 1 B 2 C 3\nnew A 0 B 2147483646 C 3\nat point 2 of 3\n\
             same\nold has 0 row bits, new 1: compared as filled with zeros\n\
+            new is shorter, 45 bytes for 53: \"new.key\"\nold is shorter, 7 bytes for 28: standard input, kept as \"f\"\n\
+            both have 28 bytes: \"old.key\", kept as \"small.key\"\n\
             keys that differ would pass with probability at most 1.0e-38 (m = 2, 9 points)\n\
             rows 1\ncolumns 2\n0 20 28 0\nA 1 B 2 C 3\nfactors 3\nrows 3\ncolumns 4\nfactors 18446744073709551615\n";
         let wanted = vec![point(&[1], &[2]), point(&[3], &[4])];
@@ -238,6 +243,7 @@ mod tests {
 {"columns":[8],"rows":[7]}
 {"command":"check","rows":1,"columns":1}
 {"command":"compare","old":"a","new":"b","status":"same","m":2,"old_row_bits":0,"old_column_bits":1,"new_row_bits":1,"new_column_bits":0}
+{"command":"compare","old":"a","new":"b","status":"same","identical":true,"shorter":"old","old_bytes":7,"new_bytes":7,"kept":"f"}
 {"command":"compare","old":"a b","status":"refused"}"#;
         let wanted = [
             (&[1][..], &[2][..]),
@@ -283,6 +289,9 @@ mod tests {
             r#"old A 1 B 2 C 3{"rows":[1],"columns":[2]}"#,
             r#"old has 1 row bit, new 2: compared as filled with zeros{"rows":[1],"columns":[2]}"#,
             r#"factors 6{"rows":[1],"columns":[2]}"#,
+            r#"new is shorter, 45 bytes for 53: "b"{"rows":[1],"columns":[2]}"#,
+            r#"old is shorter, 45 bytes for 53: "a", kept as "f"{"rows":[1],"columns":[2]}"#,
+            r#"both have 53 bytes: "a"{"rows":[1],"columns":[2]}"#,
             "A 1 B 2 C 3rows 4\ncolumns 5",
             "new A 1 B 2 C 3rows 4\ncolumns 5",
             "samerows 4\ncolumns 5",
@@ -329,6 +338,9 @@ mod tests {
             ("old a 1\n", 1, r#"does not begin with "rows""#),
             ("old new A 1\n", 1, r#"does not begin with "rows""#),
             ("at rows 1\n", 1, r#"does not begin with "rows""#),
+            ("old is longer\n", 1, r#"does not begin with "rows""#),
+            ("new was shorter\n", 1, r#"does not begin with "rows""#),
+            ("both had 1 byte\n", 1, r#"does not begin with "rows""#),
             (
                 "factors 18446744073709551616\n",
                 1,

@@ -1,6 +1,7 @@
 //! Answers as lines for people.
 
-use crate::outcome::{About, Answer, Evaluation, Files, Moved, Outcome, Source, Tried, Verdict};
+use crate::outcome::{About, Answer, Evaluation, Files, Moved, Outcome, Shorter, Source};
+use crate::outcome::{Tried, Verdict};
 use crate::output::Pieces;
 use crate::points;
 use crate::show::{bytes, Line};
@@ -121,18 +122,32 @@ fn numbers(numbers: &[u32]) -> String {
 /// The verdict in a word.
 fn word(verdict: &Verdict) -> &'static str {
     match verdict {
-        Verdict::Identical | Verdict::Same(_) => "same",
+        Verdict::Identical(_) | Verdict::Same(..) => "same",
         Verdict::Different(..) => "different",
     }
 }
 
-/// What is said of two keys, in its order: the verdict in a word, their shapes where they are not one, a cell in which
-/// they differ where it is shown, and a reason.
+/// What is said of two keys, in its order: the verdict in a word, their shapes where they are not one, the shorter key
+/// where it is named, a cell in which they differ where it is shown, and a reason.
 fn said(word: String, verdict: &Verdict, reason: String) -> impl Iterator<Item = String> {
     let shapes = verdict.shapes().map(|shapes| shapes.line());
+    let shorter = verdict.shorter().map(shorter_line);
     let cell = verdict.cell().into_iter().flat_map(differing);
-    let behind = shapes.into_iter().chain(cell);
+    let behind = shapes.into_iter().chain(shorter).chain(cell);
     iter::once(word).chain(behind).chain(iter::once(reason))
+}
+
+/// The lengths of two keys, the file of the shorter one, and the file that it was copied to, if it was.
+fn shorter_line(shorter: &Shorter) -> String {
+    let (old, new) = (shorter.old_bytes, shorter.new_bytes);
+    let lengths = match shorter.is_new {
+        true => format!("new is shorter, {} for {old}", bytes(new)),
+        false if old == new => format!("both have {}", bytes(old)),
+        false => format!("old is shorter, {} for {new}", bytes(old)),
+    };
+    let kept = shorter.kept.as_ref();
+    let kept = kept.map_or(String::new(), |kept| format!(", kept as {kept}"));
+    format!("{lengths}: {}{kept}", shorter.file)
 }
 
 /// A cell in which two keys differ: its place, the old key's values and the new key's.
@@ -147,11 +162,11 @@ fn differing(cell: DifferingCell) -> [String; 3] {
 /// What the verdict rests on.
 fn reason(verdict: &Verdict) -> String {
     match verdict {
-        Verdict::Identical => "the files are identical, so this is certain".to_owned(),
-        Verdict::Same(tried) if tried.m == 0 => {
+        Verdict::Identical(_) => "the files are identical, so this is certain".to_owned(),
+        Verdict::Same(tried, _) if tried.m == 0 => {
             "the matrices have one place, and it was compared, so this is certain".to_owned()
         }
-        Verdict::Same(tried) => match &tried.source {
+        Verdict::Same(tried, _) => match &tried.source {
             Source::Drawn(bound) => format!(
                 "keys that differ would pass with probability at most {bound} {}",
                 size(tried)
@@ -170,9 +185,9 @@ fn reason(verdict: &Verdict) -> String {
 /// The same in few words, for one of several pairs.
 fn in_short(verdict: &Verdict) -> String {
     match verdict {
-        Verdict::Identical => "certain, identical files".to_owned(),
-        Verdict::Same(tried) if tried.m == 0 => "certain, one place".to_owned(),
-        Verdict::Same(tried) => match &tried.source {
+        Verdict::Identical(_) => "certain, identical files".to_owned(),
+        Verdict::Same(tried, _) if tried.m == 0 => "certain, one place".to_owned(),
+        Verdict::Same(tried, _) => match &tried.source {
             Source::Drawn(bound) => format!("bound {bound} {}", size(tried)),
             Source::File(name) => format!("no bound, {} of {name}", points_count(tried.count)),
         },
@@ -252,11 +267,13 @@ mod tests {
                         },
                         factors: u64::MAX,
                     };
-                    for verdict in [
-                        Verdict::Same(tried()),
+                    let named = SHORTER.map(|it| Verdict::Same(tried(), Some(shorter(it))));
+                    let others = [
+                        Verdict::Same(tried(), None),
                         Verdict::Different(different(None), tried()),
                         Verdict::Different(different(Some(cell)), tried()),
-                    ] {
+                    ];
+                    for verdict in named.into_iter().chain(others) {
                         let text: String = text(&answer(verdict, &used), false).collect();
                         let text = text + &factors(u64::MAX);
                         let read = points::parse(text.as_bytes(), field);
@@ -265,8 +282,77 @@ mod tests {
                 }
             }
         }
-        let identical: String = text(&answer(Verdict::Identical, &used), false).collect();
-        let read = points::parse(identical.as_bytes(), Field::Prime);
-        assert_eq!(read, Ok(used.to_vec()));
+        let named = SHORTER.map(|it| Verdict::Identical(Some(shorter(it))));
+        for verdict in named.into_iter().chain([Verdict::Identical(None)]) {
+            let text: String = text(&answer(verdict, &used), false).collect();
+            let read = points::parse(text.as_bytes(), Field::Prime);
+            assert_eq!(read, Ok(used.to_vec()), "{text}");
+        }
+    }
+
+    /// Lengths of an old key and of a new one, and the file that the shorter one was copied to, if it was.
+    const SHORTER: [(usize, usize, Option<&str>); 6] = [
+        (53, 45, None),
+        (45, 53, None),
+        (53, 53, None),
+        (53, 45, Some("small.key")),
+        (45, 53, Some("a \"}\nrows 1")),
+        (65_536, 65_536, Some("}")),
+    ];
+
+    /// The shorter of two keys of these lengths.
+    fn shorter((old_bytes, new_bytes, kept): (usize, usize, Option<&str>)) -> Shorter {
+        let is_new = new_bytes < old_bytes;
+        Shorter {
+            is_new,
+            file: Name::from(if is_new { "new.key" } else { "old.key" }),
+            old_bytes,
+            new_bytes,
+            kept: kept.map(Name::from),
+        }
+    }
+
+    #[test]
+    fn the_shorter_key_is_named_with_both_lengths() {
+        let wanted = [
+            "new is shorter, 45 bytes for 53: \"new.key\"",
+            "old is shorter, 45 bytes for 53: \"old.key\"",
+            "both have 53 bytes: \"old.key\"",
+            "new is shorter, 45 bytes for 53: \"new.key\", kept as \"small.key\"",
+            r#"old is shorter, 45 bytes for 53: "old.key", kept as "a \"}\nrows 1""#,
+            "both have 65536 bytes: \"old.key\", kept as \"}\"",
+        ];
+        assert_eq!(SHORTER.map(|it| shorter_line(&shorter(it))), wanted);
+        let input = Shorter {
+            file: Name::from("-"),
+            ..shorter(SHORTER[1])
+        };
+        let wanted = "old is shorter, 45 bytes for 53: standard input";
+        assert_eq!(shorter_line(&input), wanted);
+    }
+
+    #[test]
+    fn the_shorter_key_stands_between_the_shapes_and_the_reason() {
+        let tried = Tried {
+            field: Field::Prime,
+            m: 3,
+            shapes: Some(Shapes {
+                old: [1, 1],
+                new: [2, 1],
+            }),
+            count: 1,
+            source: Source::File(Name::from("p")),
+            factors: 0,
+        };
+        let verdict = Verdict::Same(tried, Some(shorter(SHORTER[3])));
+        let answer = answer(verdict, &[]);
+        let shapes = "old has 1 row bit, new 2: compared as filled with zeros";
+        let line = shorter_line(&shorter(SHORTER[3]));
+        let of_one: String = text(&answer, false).collect();
+        let start = format!("same\n{shapes}\n{line}\nat the 1 point of \"p\"; ");
+        assert!(of_one.starts_with(&start), "{of_one}");
+        let of_several: String = text(&answer, true).collect();
+        let wanted = format!("same \"f\" \"f\"; {shapes}; {line}; no bound, 1 point of \"p\"\n");
+        assert_eq!(of_several, wanted);
     }
 }

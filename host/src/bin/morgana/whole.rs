@@ -27,6 +27,16 @@ pub fn write(path: &Path, bytes: &[u8], force: bool) -> io::Result<()> {
     written
 }
 
+/// Fails where `write` would, for what has the name already: for anything, or where it is forced, for what is no regular
+/// file.
+pub fn may_be_written(path: &Path, force: bool) -> io::Result<()> {
+    match force {
+        true => replaceable(path).map(|_| ()),
+        false if fs::symlink_metadata(path).is_ok() => Err(taken(path)),
+        false => Ok(()),
+    }
+}
+
 /// The modes of the regular file that has a name, if there is one. A folder, a pipe, a device or a link is not replaced, not even a
 /// link to a regular file: /dev/stdout is one where standard output goes to a file.
 fn replaceable(path: &Path) -> io::Result<Option<Permissions>> {
@@ -138,10 +148,16 @@ mod tests {
         let folder = Folder::new("whole");
         let path = folder.0.join("f");
         let holds = |bytes: &[u8]| assert_eq!(folder.files(), [("f".to_owned(), bytes.to_vec())]);
+        for force in [false, true] {
+            may_be_written(&path, force).expect("no file is there");
+        }
         write(&path, b"one", false).expect("it is written");
         holds(b"one");
         let error = write(&path, b"two", false).expect_err("it is there");
         assert_eq!(error.to_string(), "it exists, and --force is not given");
+        let before = may_be_written(&path, false).expect_err("it is there");
+        assert_eq!(before.to_string(), error.to_string());
+        may_be_written(&path, true).expect("it is replaced");
         holds(b"one");
         write(&path, b"three", true).expect("it is replaced");
         holds(b"three");
