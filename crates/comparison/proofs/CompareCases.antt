@@ -62,6 +62,44 @@ module _ (𝓢 : Scalars) (first second rows columns sheet : List ℕ) where
           ∙ naming-given Which.Second (checkedKey second) sheet _ other accepts'
           ∙ naming-given Which.Neither (pairJudged (𝓢 .width) rows columns (length sheet) one other) sheet _ both e
 
+-- what the three judgements have given where compare refuses nothing
+pub record Judged (𝓢 : Scalars) (first second rows columns sheet : List ℕ) : Type 0 where
+  pub one : Counts
+  pub other : Counts
+  pub both : Counts
+  pub accepts : checkedKey first ≡ given one
+  pub accepts' : checkedKey second ≡ given other
+  pub admits : pairJudged (𝓢 .width) rows columns (length sheet) one other ≡ given both
+
+-- where compare answers no refusal, both keys are accepted, and the point and the sheet are admitted
+module _ (𝓢 : Scalars) (first second rows columns sheet : List ℕ)
+    (some : (which : Which) (number place : ℕ) → compared 𝓢 first second rows columns sheet .answer ≡ refusedFor which number place → ⊥) where
+  refused-not : {A : Type 0} (which : Which) (number place : ℕ) →
+      compared 𝓢 first second rows columns sheet ≡ refusedCall which number place sheet → A
+  refused-not which number place e = absurd (some which number place (ap (λ (x : Comparison). x .answer) e))
+
+  pub not-refused : Judged 𝓢 first second rows columns sheet
+  not-refused = firstly (checkedKey first) refl
+    where
+      thirdly : (one other : Counts) → checkedKey first ≡ given one → checkedKey second ≡ given other → (o : Outcome Counts) →
+          pairJudged (𝓢 .width) rows columns (length sheet) one other ≡ o → Judged 𝓢 first second rows columns sheet
+      thirdly one other accepts accepts' (given both) admits =
+          record { one = one; other = other; both = both; accepts = accepts; accepts' = accepts'; admits = admits }
+      thirdly one other accepts accepts' (refused number place) e =
+          refused-not Which.Neither number place
+          (neither-refused 𝓢 first second rows columns sheet one accepts other accepts' number place e)
+
+      secondly : (one : Counts) → checkedKey first ≡ given one → (o : Outcome Counts) → checkedKey second ≡ o →
+          Judged 𝓢 first second rows columns sheet
+      secondly one accepts (given other) accepts' = thirdly one other accepts accepts' _ refl
+      secondly one accepts (refused number place) e =
+          refused-not Which.Second number place (second-refused 𝓢 first second rows columns sheet one accepts number place e)
+
+      firstly : (o : Outcome Counts) → checkedKey first ≡ o → Judged 𝓢 first second rows columns sheet
+      firstly (given one) accepts = secondly one accepts _ refl
+      firstly (refused number place) e =
+          refused-not Which.First number place (first-refused 𝓢 first second rows columns sheet number place e)
+
 -- what is answered and left on the sheet
 pub promised : (𝓢 : Scalars) (first second rows columns sheet : List ℕ) (answer : Answer) (factors : ℕ) (after : List ℕ) →
     compared 𝓢 first second rows columns sheet ≡ record { answer = answer; factors = factors; sheet = after } →

@@ -8,16 +8,13 @@ use lib.Dec.{ltb}
 use lib.ListN.{length}
 use borrow.Author.Tests.{lt-ltb, le-ltb, ltb-true, ltb-false}
 use denote.Ref.{RefT, now}
-use Rattle.refusal.specs.Outcome.{Outcome, given, refused}
 use Rattle.refusal.specs.declared.Which.{Which}
 use Rattle.field.specs.Scalars.{prime}
-use Rattle.key.specs.Check.{checkedKey}
-use Rattle.key.specs.declared.Counts.{Counts}
 use Rattle.key.proofs.IndexedKey.{edition-byte}
 use Rattle.comparison.specs.AgreementBound.{Agreement, isSame}
-use Rattle.comparison.specs.Compare.{Answer, same, different, refusedFor, Comparison, compared}
+use Rattle.comparison.specs.Compare.{Answer, same, different, refusedFor, compared}
 use Rattle.comparison.proofs.Answers.{refused-not-same}
-use Rattle.comparison.proofs.CompareCases.{first-refused, second-refused}
+use Rattle.comparison.proofs.CompareCases.{not-refused}
 use Rattle.shorter.specs.Shorter.{shorterKey, handedBy, handedKey, handedLength, HandedBack}
 
 -- the second is the shorter where it has fewer bytes, and else the first
@@ -52,23 +49,10 @@ module _ (first second rows columns sheet : List ℕ) where
 
   -- keys that are the same at a point are accepted, and an accepted key has bytes
   both-some : compared prime first second rows columns sheet .answer ≡ same → (0 < length first) × (0 < length second)
-  both-some e = firstly (checkedKey first) refl
-    where
-      answered : {x : Comparison} → compared prime first second rows columns sheet ≡ x → x .answer ≡ same
-      answered is = sym (ap (λ (x : Comparison). x .answer) is) ∙ e
-
-      secondly : (one : Counts) → checkedKey first ≡ given one → (o : Outcome Counts) → checkedKey second ≡ o →
-          (0 < length first) × (0 < length second)
-      secondly one accepts (given other) accepts' = (edition-byte first one accepts .0, edition-byte second other accepts' .0)
-      secondly one accepts (refused number place) refuses =
-          absurd (refused-not-same Which.Second number place
-          (answered (second-refused prime first second rows columns sheet one accepts number place refuses)))
-
-      firstly : (o : Outcome Counts) → checkedKey first ≡ o → (0 < length first) × (0 < length second)
-      firstly (given one) accepts = secondly one accepts _ refl
-      firstly (refused number place) refuses =
-          absurd (refused-not-same Which.First number place
-          (answered (first-refused prime first second rows columns sheet number place refuses)))
+  both-some alike =
+      let known = not-refused prime first second rows columns sheet
+      (λ which number place e. refused-not-same which number place (sym e ∙ alike)) in
+      (edition-byte first (known .one) (known .accepts) .0, edition-byte second (known .other) (known .accepts') .0)
 
   -- it is empty exactly where compare does not say "same"
   pub empty-told : ltb 0 (handedLength (handedKey first second rows columns sheet) first second)
@@ -87,7 +71,7 @@ module _ (first second rows columns sheet : List ℕ) where
       by different e = refl
       by (refusedFor which number place) e = refl
 
--- a part that is handed back is as long as that
+-- so many bytes has the part that is handed back
 pub handed-length : (key : Which) (first second part : RefT (List ℕ)) → HandedBack key first second part →
     length (now part) ≡ handedLength key (now first) (now second)
 handed-length Which.First first second part is = ap (λ (x : RefT (List ℕ)). length (now x)) is
@@ -102,8 +86,18 @@ pub promised : (first second : RefT (List ℕ)) (rows columns sheet after : List
     HandedBack (handedKey (now first) (now second) rows columns sheet) first second part ×
     ((after ≡ compared prime (now first) (now second) rows columns sheet .sheet) ×
     ((ltb 0 (length (now part)) ≡ isSame (compared prime (now first) (now second) rows columns sheet .answer)) ×
-    Agreement prime (now first) (now second)))
+    (((length (now part) ≤ length (now first)) × (length (now part) ≤ length (now second))) ×
+    Agreement prime (now first) (now second))))
 promised first second rows columns sheet after answered key part (is, (left, agrees)) told handed =
     let back = subst (λ (k : Which). HandedBack k first second part) (sym told ∙ is) handed in
     let long = handed-length (handedKey (now first) (now second) rows columns sheet) first second part back in
-    (back, (left, (ap (λ (n : ℕ). ltb 0 n) long ∙ empty-told (now first) (now second) rows columns sheet, agrees)))
+    let least = no-longer (now first) (now second) rows columns sheet in (
+      back,
+      (
+        left,
+        (
+          ap (λ (n : ℕ). ltb 0 n) long ∙ empty-told (now first) (now second) rows columns sheet,
+          ((omega (arith, long, least .0), omega (arith, long, least .1)), agrees),
+        ),
+      ),
+    )

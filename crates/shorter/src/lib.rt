@@ -2,16 +2,18 @@
 use compare::Compared;
 use refusal::Which;
 ghost use mathlib.Core.Path.{_≡_};
+ghost use Prim.Native.Nat.{_≤_};
 ghost use lib.Dec.{ltb};
 ghost use lib.ListN.{length};
 ghost use Rattle.field.specs.Scalars.{prime};
 ghost use Rattle.comparison.specs.AgreementBound.{Agreement, isSame};
 ghost use Rattle.comparison.specs.Compare.{compared};
-ghost use Rattle.shorter.specs.Shorter.{shorterKey, handedKey, HandedBack};
+ghost use Rattle.shorter.specs.Shorter.{shorterKey, handedKey, EmptyBeginning, HandedBack};
 
 // The shorter of the two lent keys itself where compare says "same" at the point, the first on a tie; the empty beginning of the first
 // where it says "different" or refuses. Nothing is copied: by `part` the result is the lent key, at its place, or begins where the first key
-// does and has no bytes. By `told` it is empty exactly where compare does not say "same". The sheet is as compare leaves it.
+// does and has no bytes. By `told` it is empty exactly where compare does not say "same", and by `least` it is no longer than either key. The
+// sheet is as compare leaves it.
 //
 // Keys that differ are taken for the same at no more points than `agreement` allows, as for `compare::compare`.
 pub fn shorter<'a>(
@@ -34,12 +36,14 @@ pub fn shorter<'a>(
         isSame
         (compared prime (now (first .entry)) (now (second .entry)) (now (rows .entry)) (now (columns .entry)) (now (sheet .entry))
         .answer) ⌝ }
+    ensures least { λ r. ⌜
+        (length (now r) ≤ length (now (first .entry))) × (length (now r) ≤ length (now (second .entry))) ⌝ }
     ensures agreement { λ _. ⌜ Agreement prime (now (first .entry)) (now (second .entry)) ⌝ }
 {
     match which(&*first, &*second, rows, columns, sheet) {
         Which::First => first,
         Which::Second => second,
-        Which::Neither => &first[..0],
+        Which::Neither => empty_beginning(first),
     }
 }
 
@@ -69,4 +73,11 @@ fn shorter_of(first: &[u8], second: &[u8]) -> Which
     } else {
         Which::First
     }
+}
+
+// The empty part that begins where the key does.
+fn empty_beginning<'a>(key: &'a [u8]) -> &'a [u8]
+    ensures { λ r. ⌜ EmptyBeginning (key .entry) r ⌝ }
+{
+    &key[..0]
 }

@@ -21,8 +21,8 @@ enum-told-2 c = search needs
 enum-told-3 : tie.Need-enum-told-3
 enum-told-3 c = search needs
 
-slice-aggregate-result : tie.Need-slice-aggregate-result
-slice-aggregate-result c = search needs
+empty-beginning-requires : tie.Need-empty-beginning-requires
+empty-beginning-requires c κs = search needs
 
 same-length : tie.Need-same-length
 same-length c = search needs
@@ -50,7 +50,7 @@ returns-3 c =
     let answered = c .before .before .before .before .before in
     let lent = start answered .args in
     promised (lent .first) (lent .second) _ _ (now (lent .sheet)) _ _ _ _ (answered .which .ensures) (c .before .enum-told3 .given .1)
-    (record { place = refl; bytes = refl })
+    (c .empty-beginning .ensures)
 
 pub shorter-spec : {M : Type 1} → statement M
 shorter-spec =
@@ -60,7 +60,7 @@ shorter-spec =
     enum-told
     enum-told-2
     enum-told-3
-    slice-aggregate-result
+    empty-beginning-requires
     same-length
     returns
     same-length-2
