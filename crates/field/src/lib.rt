@@ -1,5 +1,7 @@
 // The field of p = 2147483647 elements (01, 'The field'): the element's type with its operations, and the public calls on
 // two numbers.
+#![tactic(auto)]
+
 ghost use Rattle.std.specs.Prelude.{◌≡◌, ◌+◌, ◌*◌, ◌/◌, ◌%◌, ◌<◌, ◌≤◌};
 ghost use Rattle.refusal.specs.Outcome.{refuse};
 ghost use Rattle.field.specs.Fp.{p, fp};
@@ -9,11 +11,11 @@ ghost use Rattle.field.specs.Inner.{operation_of};
 use refusal::{Reason, Refusal};
 
 // An element of the field: a number below p.
-#[derive(Drop)]
+#[derive(Clone, Copy)]
 pub struct Fp(u32);
 
 // What sum, difference and product answer.
-#[derive(Drop)]
+#[derive(Clone, Copy)]
 pub enum Answer {
     // An element of the field.
     Element(Fp),
@@ -163,7 +165,7 @@ pub fn product(a: u32, b: u32) -> Answer
 }
 
 // Which of the three operations.
-#[derive(Drop)]
+#[derive(Clone, Copy)]
 enum Operation {
     Sum,
     Difference,

@@ -1,4 +1,6 @@
 // The field of p² elements u + v·i with i² = -1 (E2): the element's type with its operations.
+#![tactic(auto)]
+
 pub mod numbers;
 pub mod unreduced;
 pub mod words;
@@ -12,7 +14,7 @@ use field::Fp;
 use unreduced::Unreduced;
 
 // An element of the field: u and v of u + v·i, each below p.
-#[derive(Drop)]
+#[derive(Clone, Copy)]
 pub struct Fp2 {
     pub u: Fp,
     pub v: Fp,

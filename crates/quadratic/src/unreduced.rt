@@ -10,7 +10,7 @@ use crate::Fp2;
 use field::Fp;
 
 // The element u + v·i: each part stands for its remainder by p.
-#[derive(Drop)]
+#[derive(Clone, Copy)]
 pub struct Unreduced {
     u: u64,
     v: u64,

@@ -12,6 +12,8 @@ use Rattle.records.proofs.NumberBytes.{AreBytes, length-bytes, number-bytes, byt
 
 pub length_fields : (widths fields : List ℕ) → Fit widths fields → length (field_bytes widths fields) ≡ total widths
 length_fields [] [] fit = refl
+length_fields [] (field ∷ fields) fit = elim fit [ ]
+length_fields (width ∷ widths) [] fit = elim fit [ ]
 length_fields (width ∷ widths) (field ∷ fields) fit =
     length-append (bytes_of width field) (field_bytes widths fields)
     ∙ ap₂ ◌+◌ (length-bytes width field) (length_fields widths fields fit.1)
@@ -19,6 +21,8 @@ length_fields (width ∷ widths) (field ∷ fields) fit =
 -- fields that fit are read back, whatever stands behind them
 pub fields_back : (widths fields rest : List ℕ) → Fit widths fields → fields_in widths (field_bytes widths fields ++ rest) ≡ fields
 fields_back [] [] rest fit = refl
+fields_back [] (field ∷ fields) rest fit = elim fit [ ]
+fields_back (width ∷ widths) [] rest fit = elim fit [ ]
 fields_back (width ∷ widths) (field ∷ fields) rest fit =
     ap (fields_in (width ∷ widths)) (append_assoc (bytes_of width field) (field_bytes widths fields) rest)
     ∙ ap₂ ◌∷◌

@@ -10,10 +10,9 @@ use Rattle.records.specs.Inner.{size_of}
 use Rattle.records.specs.Kinds.{kind_of, fields_of, widths_of, encoded, record_of}
 use Rattle.records.specs.Layout.{fields_in, total}
 use Rattle.records.specs.Take.{Found, taken_outcome, taken_at}
-use Rattle.records.specs.declared.Record.{Record}
 use Rattle.records.specs.declared.Taken.{Taken}
 use Rattle.records.proofs.RecordSizes.{end-kind, size-encoded}
-use Rattle.records.proofs.TakeCases.{found, Whole, given-whole}
+use Rattle.records.proofs.TakeCases.{Whole, given-whole}
 
 -- of each kind that has a size the record of its fields has that kind and those fields
 made : (kind : ℕ) → 0 < size_of kind → (rest : List ℕ) →

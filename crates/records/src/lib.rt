@@ -1,4 +1,6 @@
 // The records of a key (01, 'Records'): taken from a byte slice, and put into one.
+#![tactic(auto)]
+
 pub mod read;
 mod write;
 
@@ -13,14 +15,14 @@ ghost use Rattle.records.specs.RoundTrip.{ReadBack, WrittenAgain};
 use refusal::{Reason, Refusal};
 
 // Row bits and column bits.
-#[derive(Drop)]
+#[derive(Clone, Copy)]
 pub struct Shape {
     pub rows: u8,
     pub columns: u8,
 }
 
 // An address in a sparse array, and the values of A, B and C there.
-#[derive(Drop)]
+#[derive(Clone, Copy)]
 pub struct Cell {
     pub row: u32,
     pub column: u32,
@@ -31,7 +33,7 @@ pub struct Cell {
 
 // The id of a called array, with its row position a and its column position a': how many times its own rows and columns
 // it is moved down and right.
-#[derive(Drop)]
+#[derive(Clone, Copy)]
 pub struct Call {
     pub id: u16,
     pub down: u32,
@@ -39,7 +41,7 @@ pub struct Call {
 }
 
 // The same with a factor, by which the called matrices are multiplied.
-#[derive(Drop)]
+#[derive(Clone, Copy)]
 pub struct ScaledCall {
     pub id: u16,
     pub down: u32,
@@ -48,7 +50,7 @@ pub struct ScaledCall {
 }
 
 // A record of each of the eight kinds. Its fields may hold any numbers of their types.
-#[derive(Drop)]
+#[derive(Clone, Copy)]
 pub enum Record {
     // Begins a key of edition 1: the shape of its last array.
     Head(Shape),
@@ -69,7 +71,7 @@ pub enum Record {
 }
 
 // What taking a record answers.
-#[derive(Drop)]
+#[derive(Clone, Copy)]
 pub enum Taken {
     // The record, and the offset behind it.
     Record(Record, usize),
@@ -78,7 +80,7 @@ pub enum Taken {
 }
 
 // What putting a record answers.
-#[derive(Drop)]
+#[derive(Clone, Copy)]
 pub enum Written {
     // The offset behind the record.
     Next(usize),

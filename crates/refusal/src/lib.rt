@@ -1,10 +1,12 @@
 // Why a call is refused, and where (01, 'Who can cause a refusal'; 02's new numbers).
+#![tactic(auto)]
+
 ghost use Rattle.std.specs.Prelude.{◌≡◌};
 ghost use Rattle.refusal.specs.Number.{number_of};
 
 // The condition under which a call is refused: one for each number of 01's list, in its order, but for 35, which no call gives (02, E7),
 // and then those of 02.
-#[derive(Drop)]
+#[derive(Clone, Copy)]
 pub enum Reason {
     // Faults of the key.
     KeyTooLong,
@@ -41,14 +43,14 @@ pub enum Reason {
 }
 
 // A refusal: its reason, and the place that 01 or 02 gives for that reason.
-#[derive(Drop)]
+#[derive(Clone, Copy)]
 pub struct Refusal {
     pub reason: Reason,
     pub place: usize,
 }
 
 // One of the two keys that a call takes: the one that a refusal is about, or that is handed back.
-#[derive(Drop)]
+#[derive(Clone, Copy)]
 pub enum Which {
     First,
     Second,
@@ -58,6 +60,7 @@ pub enum Which {
 
 impl Reason {
     // The number that 01 or 02 gives the reason.
+    #[tactic(auto, unfolding(crate::specs::Number::number_of))]
     pub fn number(self) -> u32
         ensures { result ≡ number_of self }
     {

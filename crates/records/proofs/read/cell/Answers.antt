@@ -1,0 +1,9 @@
+-- `records::read::cell` meets its contract: the fields lie one behind the other.
+use mathlib.Core.List.{[], ◌∷◌}
+use Rattle.records.proofs.FieldBytes.{fields_at}
+use Rattle.records.proofs.read.cell.Goals as goal
+
+pub returns : goal.returns
+returns c =
+    let start = c.args in
+    cc (fields_at 4 (4 ∷ 4 ∷ 4 ∷ 4 ∷ []) start.bytes.now start.at)

@@ -1,0 +1,5 @@
+-- `records::write::cell` meets its contract: the fields are written one behind the other.
+use Rattle.records.proofs.write.cell.Goals as goal
+
+pub returns : goal.returns
+returns c = cc
