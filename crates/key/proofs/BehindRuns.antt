@@ -64,6 +64,26 @@ rules-stay seen key starts (Record.Call a) (Record.ScaledCall b) entry again = r
 rules-stay seen key starts (Record.ScaledCall a) (Record.Cell b) entry again = refl
 rules-stay seen key starts (Record.ScaledCall a) (Record.Call b) entry again = refl
 rules-stay seen key starts (Record.ScaledCall a) (Record.ScaledCall b) entry again = refl
+rules-stay seen key starts (Record.Head _) other entry again = elim entry [ ]
+rules-stay seen key starts (Record.Sparse _) other entry again = elim entry [ ]
+rules-stay seen key starts (Record.Recursive _) other entry again = elim entry [ ]
+rules-stay seen key starts (Record.Cell a) (Record.Head _) entry again = elim again [ ]
+rules-stay seen key starts (Record.Cell a) (Record.Sparse _) entry again = elim again [ ]
+rules-stay seen key starts (Record.Cell a) (Record.Recursive _) entry again = elim again [ ]
+rules-stay seen key starts (Record.Cell a) Record.End entry again = elim again [ ]
+rules-stay seen key starts (Record.Cell a) (Record.ScaledHead _) entry again = elim again [ ]
+rules-stay seen key starts (Record.Call a) (Record.Head _) entry again = elim again [ ]
+rules-stay seen key starts (Record.Call a) (Record.Sparse _) entry again = elim again [ ]
+rules-stay seen key starts (Record.Call a) (Record.Recursive _) entry again = elim again [ ]
+rules-stay seen key starts (Record.Call a) Record.End entry again = elim again [ ]
+rules-stay seen key starts (Record.Call a) (Record.ScaledHead _) entry again = elim again [ ]
+rules-stay seen key starts Record.End other entry again = elim entry [ ]
+rules-stay seen key starts (Record.ScaledHead _) other entry again = elim entry [ ]
+rules-stay seen key starts (Record.ScaledCall a) (Record.Head _) entry again = elim again [ ]
+rules-stay seen key starts (Record.ScaledCall a) (Record.Sparse _) entry again = elim again [ ]
+rules-stay seen key starts (Record.ScaledCall a) (Record.Recursive _) entry again = elim again [ ]
+rules-stay seen key starts (Record.ScaledCall a) Record.End entry again = elim again [ ]
+rules-stay seen key starts (Record.ScaledCall a) (Record.ScaledHead _) entry again = elim again [ ]
 
 -- ---- a run of entries
 

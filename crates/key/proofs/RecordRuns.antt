@@ -2,7 +2,7 @@
 -- Those of each array run from its offset to the next, and they are the bytes there.
 use Prim.Native.Nat.{ℕ, zero, suc, ◌+◌, ◌-◌, ◌<◌}
 use mathlib.Core.Bool.{Bool}
-use mathlib.Core.List.{flat_map, List, [], ◌∷◌, ◌++◌, map, append_assoc}
+use mathlib.Core.List.{flat_map, List, [], ◌∷◌, ◌++◌, append_assoc}
 use mathlib.Core.Logic.{◌⊎◌, inl, inr}
 use mathlib.Core.Path.{◌≡◌, refl, sym, ap, ap₂, subst, ◌∙◌}
 use native.Mathlib.Omega.{arith}

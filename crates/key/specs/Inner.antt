@@ -2,7 +2,6 @@
 use Rattle.std.specs.Prelude.{ℕ, min, ◌+◌, ◌*◌, ◌/◌, ◌≤◌, ◌<◌, Bool, true, false, ◌||◌, List, ◌++◌, map, ◌≡◌, eqb, length, get_or, take}
 use Rattle.records.specs.Kinds.{kind_of, encoded}
 use Rattle.records.specs.Take.{taken_outcome, taken_at}
-use Rattle.records.specs.declared.Call.{Call}
 use Rattle.records.specs.declared.Record.{Record}
 use Rattle.records.specs.declared.Shape.{Shape}
 use Rattle.records.specs.declared.Taken.{Taken}

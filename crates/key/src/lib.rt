@@ -1,4 +1,6 @@
 // An accepted key (01, 'An accepted key'): check, and the index of a key's arrays.
+#![tactic(auto)]
+
 mod judge;
 mod run;
 mod seen;
@@ -16,7 +18,7 @@ use refusal::{Reason, Refusal};
 use rules::Verdict;
 
 // The counts of an accepted key over its records, and the head's row bits and column bits.
-#[derive(Drop)]
+#[derive(Clone, Copy)]
 pub struct Counts {
     pub arrays: usize,
     pub cells: usize,
@@ -26,7 +28,7 @@ pub struct Counts {
 }
 
 // What checking a key answers.
-#[derive(Drop)]
+#[derive(Clone, Copy)]
 pub enum Checked {
     // The key is accepted.
     Accepted(Counts),

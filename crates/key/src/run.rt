@@ -14,7 +14,7 @@ use records::{Shape, read};
 use rules::Opening;
 
 // Where the walk stands: what was seen before the offset of the next record.
-#[derive(Drop)]
+#[derive(Clone, Copy)]
 pub(crate) struct Reached {
     pub seen: Seen,
     pub at: usize,

@@ -7,7 +7,7 @@ use records::Shape;
 use rules::Opening;
 
 // What was seen so far.
-#[derive(Drop)]
+#[derive(Clone, Copy)]
 pub(crate) struct Seen {
     // Whether the next record is the first.
     pub first: bool,

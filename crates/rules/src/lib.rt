@@ -1,5 +1,7 @@
 // The rules that a record of a key must keep (01, 'An accepted key'; 02, E9). For each kind of record a function tries them in 01's
 // order, as the list for that kind in specs/Rules.antt has them. All functions here are inner; what one requires is said at it.
+#![tactic(auto)]
+
 ghost use Rattle.std.specs.Prelude.{◌≡◌, ◌+◌, ◌≤◌, ◌<◌, length, get_or};
 ghost use Rattle.rules.specs.Rules.{head_rules, opening_rules, cell_rules, end_rules, after_rules, beyond, outside};
 ghost use Rattle.rules.specs.Inner.{unless_broken, is_kept, held_to, Noted, Narrow, shape_read, called_rules_in, call_rules_in, scaled_call_rules_in};
@@ -9,14 +11,14 @@ use records::{Call, Cell, ScaledCall, Shape};
 use refusal::{Reason, Refusal};
 
 // The opening of an array: its kind, 2 sparse or 3 recursive, and the array's shape.
-#[derive(Drop)]
+#[derive(Clone, Copy)]
 pub struct Opening {
     pub kind: u8,
     pub shape: Shape,
 }
 
 // What the rules say of a record.
-#[derive(Drop)]
+#[derive(Clone, Copy)]
 pub enum Verdict {
     // It keeps them.
     Kept,

@@ -1,4 +1,6 @@
 // Weights: eq as 004 prints it, and the sides of a point, prepared for many weights.
+#![tactic(auto)]
+
 mod bits;
 mod limbs;
 pub mod side;
@@ -12,7 +14,7 @@ ghost use Rattle.multilinear.specs.Eq.{eq, eq_factor};
 use field::Fp;
 
 // The product of some factors, and how many they are.
-#[derive(Drop)]
+#[derive(Clone, Copy)]
 pub struct Product {
     pub value: Fp,
     pub factors: usize,

@@ -21,7 +21,7 @@ pub(crate) fn limb_by_limb(a: u32, table: &[u32], from: usize, to: usize) -> u64
 }
 
 // A weight over the bits up to one.
-#[derive(Drop)]
+#[derive(Clone, Copy)]
 struct Part {
     weight: u64,
     at: usize,

@@ -8,21 +8,21 @@ use crate::{bits, limbs};
 
 // A weight: any small number that is the product of its factors modulo p, and how many factors there are, one for each coordinate
 // (02, E4).
-#[derive(Drop)]
+#[derive(Clone, Copy)]
 pub struct Weight {
     pub product: u64,
     pub factors: usize,
 }
 
 // So many bits of a side, and up to which bit weights over them are taken.
-#[derive(Drop)]
+#[derive(Clone, Copy)]
 pub struct Bits {
     pub own: u8,
     pub to: u8,
 }
 
 // The bits of an array on the two sides.
-#[derive(Drop)]
+#[derive(Clone, Copy)]
 pub struct Reached {
     pub rows: Bits,
     pub columns: Bits,

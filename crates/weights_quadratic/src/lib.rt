@@ -1,5 +1,7 @@
 // Weights over the field of p²: eq as 004 prints it, and the sides of a point, prepared for many weights. What crates/weights does over
 // the field of p, with an element in each word of a table.
+#![tactic(auto)]
+
 mod bits;
 mod limbs;
 pub mod side;
@@ -16,7 +18,7 @@ ghost use Rattle.quadratic.specs.Quadratic.{quadratic};
 use quadratic::{Fp2, numbers};
 
 // The product of some factors, and how many they are.
-#[derive(Drop)]
+#[derive(Clone, Copy)]
 pub struct Product {
     pub value: Fp2,
     pub factors: usize,

@@ -24,7 +24,7 @@ pub(crate) fn limb_by_limb(a: u32, table: &[u64], from: usize, to: usize) -> Unr
 }
 
 // A weight over the bits up to one.
-#[derive(Drop)]
+#[derive(Clone, Copy)]
 struct Part {
     weight: Unreduced,
     at: usize,

@@ -10,7 +10,7 @@ use weights::table::PLACES;
 
 // A weight: small parts that are those of the product of its factors modulo p, and how many factors there are, one for each coordinate
 // (02, E4).
-#[derive(Drop)]
+#[derive(Clone, Copy)]
 pub struct Weight {
     pub product: Unreduced,
     pub factors: usize,

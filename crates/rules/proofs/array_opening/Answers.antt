@@ -1,0 +1,11 @@
+-- `rules::array_opening` meets its contract: each rule is tried in turn.
+use Rattle.rules.proofs.array_opening.Goals as goal
+
+pub returns : goal.returns
+returns c =
+    rw (
+      c.unless-4.ensures,
+      c.unless-3.ensures,
+      c.unless-2.ensures,
+      c.unless.ensures,
+    )

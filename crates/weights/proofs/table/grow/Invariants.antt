@@ -1,0 +1,7 @@
+use Prim.Native.Nat.{◌≤◌}
+use Rattle.weights.specs.Words.{singles}
+use Rattle.weights.specs.Side.{BlockGrown}
+use Rattle.weights.proofs.table.grow.Given as goal
+
+abbrev pub invariant-loop-level : goal.invariant-loop-level
+invariant-loop-level l = BlockGrown singles l.initial.table l.block l.level l.table × (l.level ≤ 5)

@@ -1,0 +1,19 @@
+-- `weights_quadratic::side::reach` meets its contract: the bits themselves, or the end of the last limb.
+use Prim.Native.Nat.{◌*◌, ◌/◌, ◌+◌}
+use mathlib.Core.Path.{◌≡◌, refl}
+use native.Mathlib.Omega.{arith}
+use Rattle.weights.specs.Side.{filled}
+use Rattle.weights.proofs.Reach.{reaches-so-far, reaches_end}
+use Rattle.weights_quadratic.specs.Packed.{packed}
+use Rattle.weights_quadratic.proofs.PackedWords.{packed-lawful}
+use Rattle.weights_quadratic.proofs.side.reach.Goals as goal
+
+pub returns-then-table-le-PLACES : goal.returns-then-table-le-PLACES
+returns-then-table-le-PLACES c = record { own = refl; reached = reaches-so-far packed c.args.most _ c.args.table.now c.requires.0 c.requires.1 }
+
+pub returns-then-bits-most : goal.returns-then-bits-most
+returns-then-bits-most c =
+    let end : (c.args.bits + 4) / 5 * 5 ≡ filled c.args.bits = omega arith in record { own = refl; reached = rw end (reaches_end packed packed-lawful c.args.most _ c.args.table.now c.if-bits-most.true c.if-table-le-PLACES.false c.requires.1) }
+
+pub returns : goal.returns
+returns c = record { own = refl; reached = reaches-so-far packed c.args.most _ c.args.table.now c.requires.0 c.requires.1 }
