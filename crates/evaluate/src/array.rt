@@ -16,7 +16,7 @@ use weights::side;
 use weights::side::Reached;
 
 // The values of an array, and how many factors its entries took (02, E4).
-#[derive(Drop)]
+#[derive(Clone, Copy)]
 pub(crate) struct Counted {
     pub values: Values,
     pub factors: usize,

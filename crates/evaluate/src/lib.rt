@@ -1,4 +1,6 @@
 // An accepted key evaluated at a point (01, 'Dense form and evaluation'), and single cells of its last array.
+#![tactic(auto)]
+
 mod array;
 mod entry;
 pub mod pass;
@@ -17,7 +19,7 @@ use key::Checked;
 use refusal::Refusal;
 
 // The values of A, B and C.
-#[derive(Drop)]
+#[derive(Clone, Copy)]
 pub struct Values {
     pub a: Fp,
     pub b: Fp,
@@ -25,7 +27,7 @@ pub struct Values {
 }
 
 // What evaluate and cell answer.
-#[derive(Drop)]
+#[derive(Clone, Copy)]
 pub enum Evaluated {
     // The last array's values, and how many factors were taken for all arrays (02, E4).
     Values(Values, usize),

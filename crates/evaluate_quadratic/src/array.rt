@@ -15,7 +15,7 @@ use weights::side::Reached;
 use weights_quadratic::side;
 
 // The values of an array, and how many factors its entries took (02, E4).
-#[derive(Drop)]
+#[derive(Clone, Copy)]
 pub(crate) struct Counted {
     pub values: Values,
     pub factors: usize,

@@ -24,7 +24,7 @@ use weights_quadratic::side;
 use weights_quadratic::side::Weight;
 
 // Sums of the values of A, B and C, not reduced yet, and of the factors that were taken for them.
-#[derive(Drop)]
+#[derive(Clone, Copy)]
 pub(crate) struct Sums {
     pub a: Unreduced,
     pub b: Unreduced,

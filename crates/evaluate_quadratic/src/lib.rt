@@ -1,4 +1,6 @@
 // An accepted key evaluated at a point over the field of p² elements (E2): as crate evaluate does over the field of p.
+#![tactic(auto)]
+
 mod array;
 mod entry;
 pub mod pass;
@@ -15,7 +17,7 @@ use quadratic::Fp2;
 use refusal::Refusal;
 
 // The values of A, B and C.
-#[derive(Drop)]
+#[derive(Clone, Copy)]
 pub struct Values {
     pub a: Fp2,
     pub b: Fp2,
@@ -23,7 +25,7 @@ pub struct Values {
 }
 
 // What evaluate answers.
-#[derive(Drop)]
+#[derive(Clone, Copy)]
 pub enum Evaluated {
     // The last array's values, and how many factors were taken for all arrays (02, E4).
     Values(Values, usize),

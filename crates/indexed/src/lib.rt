@@ -1,4 +1,6 @@
 // An accepted key whose arrays are indexed: its edition, the shape of an array and where its entries end, and how much there is to weigh.
+#![tactic(auto)]
+
 pub mod work;
 
 ghost use Rattle.std.specs.Prelude.{◌≡◌, [], ◌∷◌, ◌++◌, ◌+◌, ◌-◌, ◌<◌, ◌≤◌, length, get_or};

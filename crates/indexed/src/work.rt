@@ -34,7 +34,7 @@ pub fn saved(key: &[u8], starts: &[u16], arrays: usize) -> usize
 }
 
 // The bytes of some arrays, and about how many products weights of limbs save in them.
-#[derive(Drop)]
+#[derive(Clone, Copy)]
 struct Sample {
     bytes: usize,
     saved: usize,
@@ -96,7 +96,7 @@ fn weighed(key: &[u8], starts: &[u16], i: usize, last: usize) -> usize
     requires last_bound { last ≤ 65536 }
     ensures { result ≤ 510 }
 {
-    let own = less(crate::bits(key, starts, i), 4);
+    let own = less(bits(key, starts, i), 4);
     let opening = starts[i] as usize;
     if key[opening] == 2 {
         return own;
@@ -120,9 +120,19 @@ fn left_by(key: &[u8], starts: &[u16], i: usize, own: usize, at: usize) -> usize
     let c = read::call(key, at + 1);
     let called = c.id as usize;
     if called < i {
-        return less(own, crate::bits(key, starts, called));
+        return less(own, bits(key, starts, called));
     }
     0
+}
+
+// The bits of array i's shape. Inner: as for `of_array`.
+fn bits(key: &[u8], starts: &[u16], i: usize) -> usize
+    requires indexed { Indexed key.now starts.now }
+    requires i_in_bounds { i < length (key_arrays key.now) }
+    ensures { result ≤ 510 }
+{
+    let own = crate::shape(key, starts, i);
+    own.rows as usize + own.columns as usize
 }
 
 // The difference, or 0 where it would be below 0.

@@ -1,4 +1,6 @@
 // What a call is held to behind check's own rules (01, 'Order'): the point or the place, the sheet, and two keys together (02, E7).
+#![tactic(auto)]
+
 ghost use Rattle.std.specs.Prelude.{◌≡◌, ◌≤◌, max};
 ghost use Rattle.refusal.specs.Outcome.{and_then};
 ghost use Rattle.key.specs.Check.{checked_outcome};
