@@ -1,4 +1,6 @@
 // Two keys compared at a point (01, 'Comparing two keys'; 02, E7).
+#![tactic(auto)]
+
 mod both;
 mod filled;
 
@@ -12,7 +14,7 @@ use key::Checked;
 use refusal::{Refusal, Which};
 
 // What compare answers.
-#[derive(Drop)]
+#[derive(Clone, Copy)]
 pub enum Compared {
     // All three numbers are equal at the point. How many factors were taken for both keys (02, E4) stands beside it.
     Same(usize),

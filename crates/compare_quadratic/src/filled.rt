@@ -16,7 +16,7 @@ use records::Shape;
 use weights_quadratic::{Product, side};
 
 // A key's triple, and how many factors were taken for it.
-#[derive(Drop)]
+#[derive(Clone, Copy)]
 pub(crate) struct Counted {
     pub values: Values,
     pub factors: usize,

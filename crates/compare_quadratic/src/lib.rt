@@ -1,4 +1,6 @@
 // Two keys compared at a point over the field of p² elements (02, E2 and E7): as crate compare does over the field of p.
+#![tactic(auto)]
+
 mod both;
 mod filled;
 

@@ -1,10 +1,10 @@
--- Evaluate, cell, compare, locate and price go by what check says of a key and by its arrays alone, and so they answer alike on a key and on
--- its copy in the other edition.
+-- Evaluate, cell, compare and locate go by what check says of a key and by its arrays alone, and so they answer alike on a key and on its
+-- copy in the other edition.
 use Prim.Native.Nat.{ℕ, ◌+◌, ◌-◌}
 use mathlib.Core.List.{List, ◌++◌}
 use mathlib.Core.Path.{◌≡◌, sym, ap₂, ◌∙◌}
 use lib.ListN.{length, take, drop}
-use Rattle.refusal.specs.Outcome.{Outcome, given, and_then}
+use Rattle.refusal.specs.Outcome.{Outcome, and_then}
 use Rattle.refusal.specs.declared.Which.{Which}
 use Rattle.field.specs.Fp.{fp}
 use Rattle.field.specs.Scalars.{Scalars, prime}
@@ -22,8 +22,6 @@ use Rattle.comparison.specs.AgreementBound.{is_same}
 use Rattle.comparison.specs.Compare.{Comparison, naming, likeness, compared}
 use Rattle.comparison.specs.Filled.{used, unused_weight, multiplied, filled_values, filled_factors, own_sheet}
 use Rattle.location.specs.Locate.{settled, from_bits, differ_in, Location, last_dense_values, by_answer, located}
-use Rattle.price.specs.Price.{rates_judged, pence_for, priced}
-use Rattle.price.specs.declared.Rates.{Rates}
 use Rattle.editions.specs.Move.{moved_key}
 use Rattle.editions.specs.OtherEdition.{Alike}
 use Rattle.editions.proofs.MovedKey.{Movable, moved-accepted, moved-arrays}
@@ -113,12 +111,6 @@ module _ (one other : List ℕ) (checks : checked_key one ≡ checked_key other)
       λ t. location (λ r c s. compares-second-alike prime one other checks arrays first r c s t)
       (last_dense_values first) (dense_values (arrays t) (last_of (arrays t))) rows columns sheet
 
-  prices-alike : (rates : Rates) → priced one rates ≡ priced other rates
-  prices-alike rates =
-      ap₂ (λ (checked : Outcome Counts) (arrays : List Array).
-      and_then (and_then checked (rates_judged rates)) (λ counts. given (pence_for rates counts (factors_in arrays))))
-      checks arrays
-
   pub answers-alike : (𝓢 : Scalars) → Alike 𝓢 one other
   answers-alike 𝓢 =
       record {
@@ -129,7 +121,6 @@ module _ (one other : List ℕ) (checks : checked_key one ≡ checked_key other)
         compares_second = compares-second-alike 𝓢 one other checks arrays;
         locates_first = locates-first-alike;
         locates_second = locates-second-alike;
-        prices = prices-alike;
       }
 
 -- so they answer on the moved key as on the key

@@ -25,6 +25,8 @@ pub mod MovedBack
 -- Evaluate, cell and compare go by what check says of a key and by its arrays alone, and so they answer alike on a key and on its
 -- copy in the other edition.
 pub mod AnswersAlike
+-- Price goes by what check says of a key and by its arrays alone, and so it answers alike on a key and on its copy.
+pub mod PricesAlike
 -- What is said of a copy in the other edition, said of the buffer that a call leaves.
 pub mod MovedBuffer
 -- An answer of the move is determined by what it says.

@@ -1,5 +1,5 @@
--- What a key's copy in the other edition is (02, E9): check, evaluate, cell, compare, locate and price answer the same on it, and there and
--- back gives the first bytes.
+-- What a key's copy in the other edition is (02, E9): check, evaluate, cell, compare and locate answer the same on it, and there and back
+-- gives the first bytes.
 use Rattle.std.specs.Prelude.{ℕ, ◌≤◌, ◌<◌, not, List, ◌≡◌, length, get_or, take}
 use Rattle.refusal.specs.Outcome.{given}
 use Rattle.field.specs.Scalars.{Scalars}
@@ -11,11 +11,9 @@ use Rattle.evaluation.specs.Cell.{celled}
 use Rattle.evaluation.specs.Evaluate.{evaluated}
 use Rattle.comparison.specs.Compare.{compared}
 use Rattle.location.specs.Locate.{located}
-use Rattle.price.specs.Price.{priced}
-use Rattle.price.specs.declared.Rates.{Rates}
 use Rattle.editions.specs.Move.{moving}
 
--- two keys on which check, evaluate and compare over a field, and cell, locate and price answer the same
+-- two keys on which check, evaluate and compare over a field, and cell and locate answer the same
 pub record Alike (𝓢 : Scalars) (one other : List ℕ) : Type 0 where
   -- check
   pub checks : checked_key one ≡ checked_key other
@@ -30,8 +28,6 @@ pub record Alike (𝓢 : Scalars) (one other : List ℕ) : Type 0 where
   -- locate likewise
   pub locates_first : (second rows columns sheet : List ℕ) → located one second rows columns sheet ≡ located other second rows columns sheet
   pub locates_second : (first rows columns sheet : List ℕ) → located first one rows columns sheet ≡ located first other rows columns sheet
-  -- price
-  pub prices : (rates : Rates) → priced one rates ≡ priced other rates
 
 -- a copy of a key in the other edition, where keys are evaluated over a field
 pub record OtherEdition (𝓢 : Scalars) (key copy : List ℕ) : Type 0 where

@@ -1,4 +1,6 @@
 // A key moved into the other edition (02, E9).
+#![tactic(auto)]
+
 mod copy;
 mod factors;
 
@@ -13,7 +15,7 @@ use key::{Checked, Counts};
 use refusal::{Reason, Refusal};
 
 // What moving a key answers.
-#[derive(Drop)]
+#[derive(Clone, Copy)]
 pub enum Copied {
     // The copy's length.
     Length(usize),

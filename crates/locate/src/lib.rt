@@ -1,4 +1,6 @@
 // A cell in which two keys differ, from a point at which they do.
+#![tactic(auto)]
+
 mod place;
 mod way;
 
@@ -14,7 +16,7 @@ use evaluate::Values;
 use refusal::{Refusal, Which};
 
 // A cell in which two keys differ.
-#[derive(Drop)]
+#[derive(Clone, Copy)]
 pub struct Cell {
     pub row: u32,
     pub column: u32,
@@ -25,7 +27,7 @@ pub struct Cell {
 }
 
 // What locate answers.
-#[derive(Drop)]
+#[derive(Clone, Copy)]
 pub enum Located {
     // The keys are the same at the point.
     Same,

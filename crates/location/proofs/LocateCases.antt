@@ -1,5 +1,5 @@
 -- What locate answers and leaves on the sheet, by what compare answers at the point.
-use Prim.Native.Nat.{ℕ, ◌+◌}
+use Prim.Native.Nat.{ℕ}
 use mathlib.Core.List.{List, ◌++◌}
 use mathlib.Core.Path.{◌≡◌, sym, ap, subst, subst₂, ◌∙◌}
 use lib.ListN.{length, take, drop}

@@ -1,4 +1,6 @@
 // The shorter of two keys that are the same at a point (02, E6).
+#![tactic(auto)]
+
 ghost use Rattle.std.specs.Prelude.{◌≡◌, ◌≤◌, ltb, length};
 ghost use Rattle.field.specs.Scalars.{prime};
 ghost use Rattle.comparison.specs.AgreementBound.{Agreement, is_same};
