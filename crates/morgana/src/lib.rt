@@ -3,6 +3,8 @@
 // move of a key into the other edition. A reply is a struct of numbers: where nothing is refused its number and place are 0, and where
 // something is, every other field is 0, but for the key that a refused comparison names. The reply on the shorter key has no number and no
 // place, which compare tells.
+#![tactic(auto)]
+
 mod reply;
 
 ghost use Rattle.std.specs.Prelude.{◌≡◌, ltb};
@@ -28,7 +30,7 @@ use key::Checked;
 
 // The reply to check: an accepted key's counts of arrays, cells and calls, and its row bits and column bits.
 #[repr(C)]
-#[derive(Drop)]
+#[derive(Clone, Copy)]
 pub struct CheckReply {
     pub number: u32,
     pub place: u64,
@@ -41,7 +43,7 @@ pub struct CheckReply {
 
 // The reply to evaluate and to cell: the last array's values, and how many factors were taken for all arrays.
 #[repr(C)]
-#[derive(Drop)]
+#[derive(Clone, Copy)]
 pub struct EvaluateReply {
     pub number: u32,
     pub place: u64,
@@ -53,7 +55,7 @@ pub struct EvaluateReply {
 
 // The reply to evaluate over the field of p² elements: the last array's values, u and v of each, and the factors.
 #[repr(C)]
-#[derive(Drop)]
+#[derive(Clone, Copy)]
 pub struct QuadraticReply {
     pub number: u32,
     pub place: u64,
@@ -69,7 +71,7 @@ pub struct QuadraticReply {
 // The reply to compare, over either field: the key that a refusal is about, 1 the first, 2 the second, 0 neither; 1 for "same"; and how
 // many factors were taken for both keys.
 #[repr(C)]
-#[derive(Drop)]
+#[derive(Clone, Copy)]
 pub struct CompareReply {
     pub number: u32,
     pub place: u64,
@@ -81,7 +83,7 @@ pub struct CompareReply {
 // The reply to locate: the key that a refusal is about, as for compare; 1 for "same"; and where the keys are found different the row and the
 // column of a cell in which they differ, with A, B and C of the first key and of the second there.
 #[repr(C)]
-#[derive(Drop)]
+#[derive(Clone, Copy)]
 pub struct LocateReply {
     pub number: u32,
     pub place: u64,
@@ -100,7 +102,7 @@ pub struct LocateReply {
 // The reply to shorter: the key that is handed back whole, 1 the first, 2 the second, 0 for the empty beginning of the first; and the length
 // of what is handed back.
 #[repr(C)]
-#[derive(Drop)]
+#[derive(Clone, Copy)]
 pub struct ShorterReply {
     pub key: u32,
     pub length: u64,
@@ -108,7 +110,7 @@ pub struct ShorterReply {
 
 // The reply to price: the price of an evaluation in pence.
 #[repr(C)]
-#[derive(Drop)]
+#[derive(Clone, Copy)]
 pub struct PriceReply {
     pub number: u32,
     pub place: u64,
@@ -117,7 +119,7 @@ pub struct PriceReply {
 
 // The reply to move: the copy's length.
 #[repr(C)]
-#[derive(Drop)]
+#[derive(Clone, Copy)]
 pub struct MoveReply {
     pub number: u32,
     pub place: u64,
@@ -129,7 +131,7 @@ pub struct MoveReply {
 pub extern "C" fn morgana_version() -> u32
     ensures { result ≡ version }
 {
-    8000
+    7000
 }
 
 // Whether bytes are an accepted key: its counts, or the first fault with its place.
@@ -333,8 +335,8 @@ pub extern "C" fn morgana_price(
 }
 
 // The key copied to the start of the buffer, into the edition that its head isn't. The answer is the copy's length, and the bytes behind
-// it stay; a refused call leaves the buffer. By `copy` check, cell, locate and price, and evaluate and compare over either field, answer on the
-// copy as on the key, and moved in its turn it gives the key. `morgana_shorter` compares alike too, and goes by the copy's own length.
+// it stay; a refused call leaves the buffer. By `copy` check, cell and locate, and evaluate and compare over either field, answer on the copy
+// as on the key, and moved in its turn it gives the key. `morgana_shorter` compares alike too, and goes by the copy's own length.
 #[unsafe(no_mangle)]
 pub extern "C" fn morgana_move(key: &[u8], buffer: &mut [u8]) -> MoveReply
     ensures reply { result ≡ move_reply (moving key.now buffer.old).answer }

@@ -1,4 +1,6 @@
 // What keysheet prints.
+#![tactic(auto)]
+
 mod input;
 mod lines;
 mod text;
