@@ -1,16 +1,16 @@
 """Writes what the test programs crates/cases, crates/cases_quadratic and crates/products are run on and what they must
-print, from 01-scope.md, from E2, E4, E6, E7, E9 and E14 of 02-change-requests.md and from eq as 004 prints it alone.
+print, from 01-scope.md, from E2, E4, E6, E7 and E9 of 02-change-requests.md and from eq as 004 prints it alone.
 
 usage: python3 -B -m tests.cases [--check | --help]
 
 Without --check it writes stdin and stdout of each program; with it, it says whether they are up to date and exits 1 where
 they are not. The cases of crates/cases_quadratic, over p², are in quadratic/, and those of crates/products, on eq, in
 products.py; what follows is of crates/cases. Edges that 01 and 02 word are written with the answer that these give: those
-of evaluate and cell in evaluations.py and refusals.py, those of compare in comparisons.py and comparison_refusals.py, and
-of unequal shapes in grown/, those of edition 2 and of the move in editions/, those of the count of factors in factors.py,
-those of shorter in shorters.py, and those of the price in prices.py. Every answer, of these and of the sweeps around them,
-is worked out by tests/model, and the two must agree. What compare answers at every point of a list of values is known in
-closed form alone (counts.py and grown/counts.py).
+of evaluate and cell in evaluations.py and refusals.py, those of compare in comparisons.py and comparison_refusals.py, and of
+unequal shapes in grown/, those of edition 2 and of the move in editions/, those of the count of factors in factors.py, and
+those of shorter in shorters.py. Every answer, of these and of the sweeps around them, is worked out by tests/model, and the
+two must agree. What compare answers at every point of a list of values is known in closed form alone (counts.py and
+grown/counts.py).
 """
 
 import sys

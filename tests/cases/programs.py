@@ -17,7 +17,6 @@ from .evaluations import evaluation_cases
 from .factors import factor_cases, quadratic_factor_cases
 from .grown.sweep import grown_cases, quadratic_grown_cases
 from .locations import location_cases
-from .prices import price_cases
 from .quadratic.sweep import quadratic_cases
 from .records import put_cases, take_cases
 from .refusals import refusal_cases
@@ -43,7 +42,6 @@ def public_cases():
     grown_cases(cases, draw)
     location_cases(cases, draw)
     shorter_cases(cases, draw)
-    price_cases(cases, draw)
     return cases
 
 

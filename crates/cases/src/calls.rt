@@ -5,38 +5,51 @@ use crate::{moves, pairs, print, values};
 use field::Answer;
 use price::Priced;
 use records::{Call, Cell, Record, ScaledCall, Shape};
+use std::io;
+use std::io::{Read, Write};
 use testing::input;
 use testing::input::Header;
 
 // Reads a case's data and makes its call. Inner: the lengths are as the header's reader leaves them.
-pub(crate) fn call(header: Header, space: &mut [u8])
+pub(crate) fn call<R: Read, W: Write>(
+    reader: &mut R,
+    writer: &mut W,
+    header: Header,
+    space: &mut [u8],
+) -> io::Result<()>
     requires { (header.zeros < 131072) × (header.«data» < 131072) }
 {
     let from = header.zeros;
     let end = from + header.data;
     if end <= space.len() {
-        on(header, &mut space[0..end]);
+        on(reader, writer, header, &mut space[0..end])?;
     }
+    Ok(())
 }
 
 // The call of a case on a buffer of its zeros and its data.
-fn on(header: Header, buffer: &mut [u8]) {
-    input::data(header.zeros, buffer);
+fn on<R: Read, W: Write>(
+    reader: &mut R,
+    writer: &mut W,
+    header: Header,
+    buffer: &mut [u8],
+) -> io::Result<()> {
+    input::data(reader, header.zeros, buffer)?;
     let operation = header.operation;
     let at = header.x as usize;
     match operation {
-        1 | 2 | 3 => print::answer(arithmetic(header)),
-        4 => print::taken(records::take(buffer, at)),
-        5 => put(header, buffer),
-        6 => print::checked(key::check(buffer)),
-        7 => values::at_point(header, buffer),
-        8 => values::at_place(header, buffer),
-        9 => pairs::at_point(header, buffer),
-        10 => pairs::at_points(header, buffer),
-        13 => moves::moved(header, buffer),
-        14 | 15 => pairs::at_point(header, buffer),
-        16 => print::priced(price(header, buffer)),
-        _ => {}
+        1 | 2 | 3 => print::answer(writer, arithmetic(header)),
+        4 => print::taken(writer, records::take(buffer, at)),
+        5 => put(writer, header, buffer),
+        6 => print::checked(writer, key::check(buffer)),
+        7 => values::at_point(reader, writer, header, buffer),
+        8 => values::at_place(reader, writer, header, buffer),
+        9 => pairs::at_point(reader, writer, header, buffer),
+        10 => pairs::at_points(reader, writer, header, buffer),
+        13 => moves::moved(writer, header, buffer),
+        14 | 15 => pairs::at_point(reader, writer, header, buffer),
+        16 => print::priced(writer, price(header, buffer)),
+        _ => Ok(()),
     }
 }
 
@@ -59,11 +72,11 @@ fn price(header: Header, key: &[u8]) -> Priced {
 }
 
 // Puts the case's record, and prints the answer and the buffer's bytes behind the zeros.
-fn put(header: Header, buffer: &mut [u8]) {
+fn put<W: Write>(writer: &mut W, header: Header, buffer: &mut [u8]) -> io::Result<()> {
     let at = header.x as usize;
-    print::written(records::put(record(header), buffer, at));
-    io::write_all(1, b" buffer ");
-    print::bytes(buffer, header.zeros);
+    print::written(writer, records::put(record(header), buffer, at))?;
+    writer.write_all(b" buffer ")?;
+    print::bytes(writer, buffer, header.zeros)
 }
 
 // The record of a case's kind and fields; an end where there is no such kind.

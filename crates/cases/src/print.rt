@@ -7,199 +7,186 @@ use locate::Located;
 use price::Priced;
 use records::{Record, Shape, Taken, Written};
 use refusal::Which;
+use std::io;
+use std::io::Write;
 use testing::output;
 
 // A number, or a refusal.
-pub(crate) fn answer(got: Answer) {
+pub(crate) fn answer<W: Write>(writer: &mut W, got: Answer) -> io::Result<()> {
     match got {
-        Answer::Element(x) => output::number(x.value() as u64),
-        Answer::Refused(r) => output::refusal(r),
+        Answer::Element(x) => output::number(writer, x.value() as u64),
+        Answer::Refused(r) => output::refusal(writer, r),
     }
 }
 
 // A record with its kind's name, its fields and the next offset, or a refusal.
-pub(crate) fn taken(got: Taken) {
+pub(crate) fn taken<W: Write>(writer: &mut W, got: Taken) -> io::Result<()> {
     match got {
         Taken::Record(item, next) => {
-            record(item);
-            io::write_all(1, b"next ");
-            output::number(next as u64);
+            record(writer, item)?;
+            write!(writer, "next {next}")
         }
-        Taken::Refused(r) => output::refusal(r),
+        Taken::Refused(r) => output::refusal(writer, r),
     }
 }
 
 // The next offset, or a refusal.
-pub(crate) fn written(got: Written) {
+pub(crate) fn written<W: Write>(writer: &mut W, got: Written) -> io::Result<()> {
     match got {
-        Written::Next(next) => {
-            io::write_all(1, b"next ");
-            output::number(next as u64);
-        }
-        Written::Refused(r) => output::refusal(r),
+        Written::Next(next) => write!(writer, "next {next}"),
+        Written::Refused(r) => output::refusal(writer, r),
     }
 }
 
 // The length of a moved key, or a refusal.
-pub(crate) fn moved(got: Copied) {
+pub(crate) fn moved<W: Write>(writer: &mut W, got: Copied) -> io::Result<()> {
     match got {
-        Copied::Length(length) => {
-            io::write_all(1, b"length ");
-            output::number(length as u64);
-        }
-        Copied::Refused(r) => output::refusal(r),
+        Copied::Length(length) => write!(writer, "length {length}"),
+        Copied::Refused(r) => output::refusal(writer, r),
     }
 }
 
 // A price in pence, or a refusal.
-pub(crate) fn priced(got: Priced) {
+pub(crate) fn priced<W: Write>(writer: &mut W, got: Priced) -> io::Result<()> {
     match got {
-        Priced::Pence(pence) => {
-            io::write_all(1, b"price ");
-            output::number(pence as u64);
-        }
-        Priced::Refused(r) => output::refusal(r),
+        Priced::Pence(pence) => write!(writer, "price {pence}"),
+        Priced::Refused(r) => output::refusal(writer, r),
     }
 }
 
 // The counts of an accepted key, or a refusal.
-pub(crate) fn checked(got: Checked) {
+pub(crate) fn checked<W: Write>(writer: &mut W, got: Checked) -> io::Result<()> {
     match got {
-        Checked::Accepted(c) => counts(c),
-        Checked::Refused(r) => output::refusal(r),
+        Checked::Accepted(c) => counts(writer, c),
+        Checked::Refused(r) => output::refusal(writer, r),
     }
 }
 
 // The values of A, B and C and the factors, or a refusal.
-pub(crate) fn evaluated(got: Evaluated) {
+pub(crate) fn evaluated<W: Write>(writer: &mut W, got: Evaluated) -> io::Result<()> {
     match got {
         Evaluated::Values(v, taken) => {
-            values(v);
-            output::factors(taken);
+            values(writer, v)?;
+            output::factors(writer, taken)
         }
-        Evaluated::Refused(r) => output::refusal(r),
+        Evaluated::Refused(r) => output::refusal(writer, r),
     }
 }
 
 // "same", or a cell in which two keys differ with the values of both there, or the refusal with the key that it is about.
-pub(crate) fn located(got: Located) {
+pub(crate) fn located<W: Write>(writer: &mut W, got: Located) -> io::Result<()> {
     match got {
-        Located::Same => {
-            io::write_all(1, b"same");
-        }
+        Located::Same => writer.write_all(b"same"),
         Located::Differs(cell) => {
-            io::write_all(1, b"different at row ");
-            field(cell.row);
-            io::write_all(1, b"column ");
-            field(cell.column);
-            io::write_all(1, b"first ");
-            values(cell.first);
-            io::write_all(1, b" second ");
-            values(cell.second);
+            writer.write_all(b"different at row ")?;
+            field(writer, cell.row)?;
+            writer.write_all(b"column ")?;
+            field(writer, cell.column)?;
+            writer.write_all(b"first ")?;
+            values(writer, cell.first)?;
+            writer.write_all(b" second ")?;
+            values(writer, cell.second)
         }
         Located::Refused(key, r) => {
-            output::which(key);
-            output::refusal(r);
+            output::which(writer, key)?;
+            output::refusal(writer, r)
         }
     }
 }
 
 // The key that is handed back whole, 0 for none, and how many bytes are handed back.
-pub(crate) fn shorter(key: Which, length: usize) {
-    io::write_all(1, b"key ");
-    match key {
-        Which::First => output::number(1),
-        Which::Second => output::number(2),
-        Which::Neither => output::number(0),
-    }
-    io::write_all(1, b" length ");
-    output::number(length as u64);
+pub(crate) fn shorter<W: Write>(writer: &mut W, key: Which, length: usize) -> io::Result<()> {
+    let number = match key {
+        Which::First => 1u8,
+        Which::Second => 2,
+        Which::Neither => 0,
+    };
+    write!(writer, "key {number} length {length}")
 }
 
 // The values of A, B and C.
-fn values(v: Values) {
-    field(v.a.value());
-    field(v.b.value());
-    output::number(v.c.value() as u64);
+fn values<W: Write>(writer: &mut W, v: Values) -> io::Result<()> {
+    field(writer, v.a.value())?;
+    field(writer, v.b.value())?;
+    output::number(writer, v.c.value() as u64)
 }
 
 // The bytes of a buffer from an offset on, in hexadecimal.
-pub(crate) fn bytes(buffer: &[u8], from: usize) {
+pub(crate) fn bytes<W: Write>(writer: &mut W, buffer: &[u8], from: usize) -> io::Result<()> {
     let mut i = from;
     while i < buffer.len() {
-        byte(buffer[i]);
+        byte(writer, buffer[i])?;
         i += 1;
     }
+    Ok(())
 }
 
-fn byte(x: u8) {
-    io::print_hex(1, x as u64, 2);
+fn byte<W: Write>(writer: &mut W, x: u8) -> io::Result<()> {
+    write!(writer, "{x:02x}")
 }
 
-fn record(item: Record) {
+fn record<W: Write>(writer: &mut W, item: Record) -> io::Result<()> {
     match item {
         Record::Head(s) => {
-            io::write_all(1, b"head ");
-            shape(s);
+            writer.write_all(b"head ")?;
+            shape(writer, s)
         }
         Record::Sparse(s) => {
-            io::write_all(1, b"sparse ");
-            shape(s);
+            writer.write_all(b"sparse ")?;
+            shape(writer, s)
         }
         Record::Recursive(s) => {
-            io::write_all(1, b"recursive ");
-            shape(s);
+            writer.write_all(b"recursive ")?;
+            shape(writer, s)
         }
         Record::Cell(c) => {
-            io::write_all(1, b"cell ");
-            field(c.row);
-            field(c.column);
-            field(c.a);
-            field(c.b);
-            field(c.c);
+            writer.write_all(b"cell ")?;
+            field(writer, c.row)?;
+            field(writer, c.column)?;
+            field(writer, c.a)?;
+            field(writer, c.b)?;
+            field(writer, c.c)
         }
         Record::Call(c) => {
-            io::write_all(1, b"call ");
-            field(c.id as u32);
-            field(c.down);
-            field(c.right);
+            writer.write_all(b"call ")?;
+            field(writer, c.id as u32)?;
+            field(writer, c.down)?;
+            field(writer, c.right)
         }
-        Record::End => {
-            io::write_all(1, b"end ");
-        }
+        Record::End => writer.write_all(b"end "),
         Record::ScaledHead(s) => {
-            io::write_all(1, b"scaled_head ");
-            shape(s);
+            writer.write_all(b"scaled_head ")?;
+            shape(writer, s)
         }
         Record::ScaledCall(c) => {
-            io::write_all(1, b"scaled_call ");
-            field(c.id as u32);
-            field(c.down);
-            field(c.right);
-            field(c.factor);
+            writer.write_all(b"scaled_call ")?;
+            field(writer, c.id as u32)?;
+            field(writer, c.down)?;
+            field(writer, c.right)?;
+            field(writer, c.factor)
         }
     }
 }
 
-fn counts(c: Counts) {
-    io::write_all(1, b"arrays ");
-    output::number(c.arrays as u64);
-    io::write_all(1, b" cells ");
-    output::number(c.cells as u64);
-    io::write_all(1, b" calls ");
-    output::number(c.calls as u64);
-    io::write_all(1, b" rows ");
-    output::number(c.rows as u64);
-    io::write_all(1, b" columns ");
-    output::number(c.columns as u64);
+fn counts<W: Write>(writer: &mut W, c: Counts) -> io::Result<()> {
+    let Counts {
+        arrays,
+        cells,
+        calls,
+        rows,
+        columns,
+    } = c;
+    write!(
+        writer,
+        "arrays {arrays} cells {cells} calls {calls} rows {rows} columns {columns}"
+    )
 }
 
-fn shape(s: Shape) {
-    field(s.rows as u32);
-    field(s.columns as u32);
+fn shape<W: Write>(writer: &mut W, s: Shape) -> io::Result<()> {
+    field(writer, s.rows as u32)?;
+    field(writer, s.columns as u32)
 }
 
-fn field(x: u32) {
-    output::number(x as u64);
-    io::write_all(1, b" ");
+fn field<W: Write>(writer: &mut W, x: u32) -> io::Result<()> {
+    write!(writer, "{x} ")
 }

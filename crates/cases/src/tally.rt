@@ -2,24 +2,26 @@
 ghost use Rattle.std.specs.Prelude.{◌≤◌};
 
 use compare::Compared;
-use testing::output;
+use std::io;
+use std::io::Write;
 
 // At how many points two keys are the same, and at how many they are different.
-#[derive(Drop)]
+#[derive(Clone, Copy)]
 pub(crate) struct Tally {
     pub same: u32,
     pub different: u32,
 }
 
 // Compares two keys at every point of one coordinate or two that are among the values; the last coordinate changes first.
-pub(crate) fn over_points(
+pub(crate) fn over_points<W: Write>(
+    writer: &mut W,
     first: &[u8],
     second: &[u8],
     rows: usize,
     columns: usize,
     values: &[u32],
     sheet: &mut [u32],
-) -> Tally {
+) -> io::Result<Tally> {
     let lines = line_count(rows, columns, values.len());
     let mut tally = Tally {
         same: 0,
@@ -28,10 +30,12 @@ pub(crate) fn over_points(
     let mut i = 0;
     while i < lines {
         let from = value(values, i);
-        tally = over_line(tally, first, second, rows, columns, from, values, sheet);
+        tally = over_line(
+            writer, tally, first, second, rows, columns, from, values, sheet,
+        )?;
         i += 1;
     }
-    tally
+    Ok(tally)
 }
 
 // How many lines the points of so many values are in: one for each value where a point has two coordinates.
@@ -44,7 +48,8 @@ fn line_count(rows: usize, columns: usize, values: usize) -> usize {
 }
 
 // Goes on with the points whose last coordinate is among the values; the first, where there are two, is given.
-fn over_line(
+fn over_line<W: Write>(
+    writer: &mut W,
     before: Tally,
     first: &[u8],
     second: &[u8],
@@ -53,15 +58,19 @@ fn over_line(
     from: u32,
     values: &[u32],
     sheet: &mut [u32],
-) -> Tally {
+) -> io::Result<Tally> {
     let mut tally = before;
     let mut i = 0;
     while i < values.len() {
         let point = [from, value(values, i)];
-        tally = counted(tally, at(first, second, rows, columns, &point, sheet));
+        tally = counted(
+            writer,
+            tally,
+            at(first, second, rows, columns, &point, sheet),
+        )?;
         i += 1;
     }
-    tally
+    Ok(tally)
 }
 
 // The value at an index, or 0 where there is none.
@@ -97,32 +106,31 @@ fn without(a: usize, b: usize) -> usize
 }
 
 // The tally with one answer more, whose letter is printed.
-fn counted(tally: Tally, got: Compared) -> Tally {
+fn counted<W: Write>(writer: &mut W, tally: Tally, got: Compared) -> io::Result<Tally> {
     let mut same = tally.same;
     let mut different = tally.different;
     match got {
         Compared::Same(_) => {
-            io::write_all(1, b"S");
+            writer.write_all(b"S")?;
             same = std::num::wrapping_add_u32(same, 1);
         }
         Compared::Different(_) => {
-            io::write_all(1, b"D");
+            writer.write_all(b"D")?;
             different = std::num::wrapping_add_u32(different, 1);
         }
         Compared::Refused(_, _) => {
-            io::write_all(1, b"R");
+            writer.write_all(b"R")?;
         }
     }
-    Tally {
+    Ok(Tally {
         same: same,
         different: different,
-    }
+    })
 }
 
 // Prints a tally behind its letters.
-pub(crate) fn show(tally: Tally) {
-    io::write_all(1, b" same ");
-    output::number(tally.same as u64);
-    io::write_all(1, b" different ");
-    output::number(tally.different as u64);
+pub(crate) fn show<W: Write>(writer: &mut W, tally: Tally) -> io::Result<()> {
+    let same = tally.same;
+    let different = tally.different;
+    write!(writer, " same {same} different {different}")
 }

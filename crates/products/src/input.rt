@@ -1,12 +1,15 @@
 // The numbers of a case.
-ghost use Rattle.std.specs.Prelude.{◌≤◌};
+ghost use Rattle.std.specs.Prelude.{◌≤◌, IfOk, OnOk};
+ghost use Rattle.std.specs.Io.{ReadsAtMost};
 ghost use Rattle.algebra.specs.Points.{Below};
 ghost use Rattle.field.specs.Fp.{p};
 
 use field::Fp;
+use std::io;
+use std::io::Read;
 
 // The numbers that a case begins with.
-#[derive(Drop)]
+#[derive(Clone, Copy)]
 pub(crate) struct Header {
     // Which call: 1 for eq, 2 for factor, 3 for weigh, 4 for eq over p².
     pub call: u32,
@@ -23,32 +26,48 @@ pub(crate) struct Header {
 }
 
 // The next header. A list has at most 30 numbers.
-pub(crate) fn read() -> Header
-    ensures { result.count ≤ 30 }
+pub(crate) fn read<R: Read>(reader: &mut R) -> io::Result<Header>
+    ensures { IfOk result (λ header. header.count ≤ 30) }
 {
-    Header {
-        call: next(),
-        text: next() as usize,
-        count: (next() % 31) as usize,
-        number: next(),
-        from: next() as usize,
-        places: next(),
-    }
+    Ok(Header {
+        call: next(reader)?,
+        text: next(reader)? as usize,
+        count: (next(reader)? % 31) as usize,
+        number: next(reader)?,
+        from: next(reader)? as usize,
+        places: next(reader)?,
+    })
 }
 
 // The next numbers, modulo p.
-pub(crate) fn fill(numbers: &mut [u32])
-    ensures { Below p numbers.new }
+pub(crate) fn fill<R: Read>(reader: &mut R, numbers: &mut [u32]) -> io::Result<()>
+    ensures { OnOk result (Below p numbers.new) }
 {
     let count = numbers.len();
     for i in 0..count {
-        numbers[i] = Fp::remainder(next() as u64).value();
+        numbers[i] = Fp::remainder(next(reader)? as u64).value();
     }
+    Ok(())
 }
 
 // The number in the next four bytes.
-pub(crate) fn next() -> u32 {
+pub(crate) fn next<R: Read>(reader: &mut R) -> io::Result<u32> {
     let mut bytes = [0u8; 4];
-    io::read_full(0, &mut bytes);
-    records::read::four_bytes(&bytes, 0)
+    read_full(reader, &mut bytes)?;
+    Ok(records::read::four_bytes(&bytes, 0))
+}
+
+// Reads until a buffer is full or the reader ends, and answers how many bytes were put at the buffer's start.
+pub(crate) fn read_full<R: Read>(reader: &mut R, buffer: &mut [u8]) -> io::Result<usize>
+    ensures { ReadsAtMost result buffer.new }
+{
+    let mut done = 0;
+    while done < buffer.len() {
+        let count = reader.read(&mut buffer[done..])?;
+        if count == 0 {
+            break;
+        }
+        done += count;
+    }
+    Ok(done)
 }

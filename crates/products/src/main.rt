@@ -3,28 +3,36 @@
 //
 // Standard input is the number of cases and then each case: its header (input::Header), the text to print in front of what was
 // got, and the numbers of its lists. All numbers are of four bytes, little-endian.
+#![tactic(auto)]
+
 mod eqs;
 mod input;
 mod print;
 mod sides;
 
-fn main() {
-    let cases = input::next();
+use std::io;
+use std::io::{Read, Write};
+
+fn main(rt: HostRuntime) -> io::Result<()> {
+    let mut reader = rt.stdin();
+    let mut writer = rt.stdout();
+    let cases = input::next(&mut reader)?;
     for _ in 0..cases {
-        run();
+        run(&mut reader, &mut writer)?;
     }
+    Ok(())
 }
 
 // One case.
-fn run() {
-    let header = input::read();
+fn run<R: Read, W: Write>(reader: &mut R, writer: &mut W) -> io::Result<()> {
+    let header = input::read(reader)?;
     let mut text = [0u8; 4096];
-    print::echo(header.text, &mut text);
+    print::echo(reader, writer, header.text, &mut text)?;
     let call = header.call;
     match call {
-        1 => eqs::eq(header.count),
-        4 => eqs::eq_quadratic(header.count),
-        _ => sides::weights(header),
+        1 => eqs::eq(reader, writer, header.count)?,
+        4 => eqs::eq_quadratic(reader, writer, header.count)?,
+        _ => sides::weights(reader, writer, header)?,
     }
-    io::write_all(1, b"\n");
+    writer.write_all(b"\n")
 }

@@ -6,59 +6,94 @@ ghost use Rattle.weights.specs.Side.{Ready, ForSide};
 use crate::input::Header;
 use crate::{input, print};
 use field::Fp;
+use std::io;
+use std::io::{Read, Write};
 use weights::side::Weight;
 use weights::{side, table};
 
 // Prints the weights of a case by a table of single factors, or by one with the weights of limbs. Inner: there are at most 30
 // coordinates.
-pub(crate) fn weights(header: Header)
+pub(crate) fn weights<R: Read, W: Write>(
+    reader: &mut R,
+    writer: &mut W,
+    header: Header,
+) -> io::Result<()>
     requires { header.count ≤ 30 }
 {
     let count = header.count;
     let mut coordinates = [0u32; 30];
     if header.places == 64 {
         let mut table = [0u32; table::PLACES];
-        return by_table(header, &mut coordinates[0..count], &mut table);
+        return by_table(
+            reader,
+            writer,
+            header,
+            &mut coordinates[0..count],
+            &mut table,
+        );
     }
     let mut table = [0u32; table::LIMB_PLACES];
-    by_table(header, &mut coordinates[0..count], &mut table)
+    by_table(
+        reader,
+        writer,
+        header,
+        &mut coordinates[0..count],
+        &mut table,
+    )
 }
 
 // Reads the coordinates, prepares the side and prints the weights. Inner: likewise, and the table has places for them.
-fn by_table(header: Header, coordinates: &mut [u32], table: &mut [u32])
+fn by_table<R: Read, W: Write>(
+    reader: &mut R,
+    writer: &mut W,
+    header: Header,
+    coordinates: &mut [u32],
+    table: &mut [u32],
+) -> io::Result<()>
     requires { (length coordinates.old ≤ 30) × Ready singles table.old }
 {
-    input::fill(coordinates);
+    input::fill(reader, coordinates)?;
     table::prepare(coordinates, table);
     let count = coordinates.len();
     if header.call == 2 {
-        windows(header.number, table, header.from, count as u8);
+        windows(writer, header.number, table, header.from, count as u8)
     } else {
-        from_first(header.number, table, count as u8);
+        from_first(writer, header.number, table, count as u8)
     }
 }
 
 // Prints the weights of a number over the bits from one up to each that is not before it, each of the number's lowest bits, so many. Inner:
 // the table is one for so many coordinates.
-fn windows(a: u32, table: &[u32], from: usize, count: u8)
+fn windows<W: Write>(
+    writer: &mut W,
+    a: u32,
+    table: &[u32],
+    from: usize,
+    count: u8,
+) -> io::Result<()>
     requires { ForSide singles count table.now }
 {
     for bits in 0..count + 1 {
         if from <= bits as usize {
             let over = side::reach(bits, count, table);
-            weight(side::factor(lowest(a, bits as usize - from), table, from, over));
+            weight(
+                writer,
+                side::factor(lowest(a, bits as usize - from), table, from, over),
+            )?;
         }
     }
+    Ok(())
 }
 
 // Prints the weights of a number over the first bits, up to each, likewise. Inner: likewise.
-fn from_first(a: u32, table: &[u32], count: u8)
+fn from_first<W: Write>(writer: &mut W, a: u32, table: &[u32], count: u8) -> io::Result<()>
     requires { ForSide singles count table.now }
 {
     for bits in 0..count + 1 {
         let over = side::reach(bits, count, table);
-        weight(side::weigh(lowest(a, bits as usize), table, over));
+        weight(writer, side::weigh(lowest(a, bits as usize), table, over))?;
     }
+    Ok(())
 }
 
 // A number's lowest bits, so many. Inner: at most 30.
@@ -70,7 +105,7 @@ fn lowest(a: u32, bits: usize) -> u32
 }
 
 // Prints a weight and its count of factors.
-fn weight(of: Weight) {
-    print::element(Fp::remainder(of.product));
-    print::count(of.factors);
+fn weight<W: Write>(writer: &mut W, of: Weight) -> io::Result<()> {
+    print::element(writer, Fp::remainder(of.product))?;
+    print::count(writer, of.factors)
 }

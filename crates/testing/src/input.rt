@@ -1,11 +1,14 @@
-// A case, read from standard input.
-ghost use Rattle.std.specs.Prelude.{◌≡◌, ◌+◌, ◌*◌, ◌≤◌, ◌<◌, take, drop};
+// A case, read from a reader.
+ghost use Rattle.std.specs.Prelude.{◌≡◌, ◌+◌, ◌*◌, ◌≤◌, ◌<◌, IfOk, take, drop};
+ghost use Rattle.std.specs.Io.{ReadsAtMost};
 ghost use Rattle.records.specs.Layout.{number_in};
 
 use records::read;
+use std::io;
+use std::io::Read;
 
 // The numbers in front of a case's text and data, each of which serves the calls that need it.
-#[derive(Drop)]
+#[derive(Clone, Copy)]
 pub struct Header {
     // Which call is made.
     pub operation: u8,
@@ -27,12 +30,12 @@ pub struct Header {
 }
 
 // The next header. Lengths are cut so that a case fits its space.
-pub fn read() -> Header
-    ensures { (result.zeros < 131072) × (result.«data» < 131072) }
+pub fn read<R: Read>(reader: &mut R) -> io::Result<Header>
+    ensures { IfOk result (λ header. (header.zeros < 131072) × (header.«data» < 131072)) }
 {
     let mut bytes = [0u8; 48];
-    io::read_full(0, &mut bytes);
-    from_bytes(&bytes)
+    read_full(reader, &mut bytes)?;
+    Ok(from_bytes(&bytes))
 }
 
 // The header in its 48 bytes.
@@ -57,27 +60,44 @@ fn from_bytes(bytes: &[u8; 48]) -> Header
     }
 }
 
-// The number in the next four bytes of standard input.
-pub fn next() -> u32 {
+// The number in the reader's next four bytes.
+pub fn next<R: Read>(reader: &mut R) -> io::Result<u32> {
     let mut bytes = [0u8; 4];
-    io::read_full(0, &mut bytes);
-    read::four_bytes(&bytes, 0)
+    read_full(reader, &mut bytes)?;
+    Ok(read::four_bytes(&bytes, 0))
 }
 
-// The next numbers of standard input.
-pub fn fill(numbers: &mut [u32]) {
+// The reader's next numbers.
+pub fn fill<R: Read>(reader: &mut R, numbers: &mut [u32]) -> io::Result<()> {
     let mut i = 0;
     while i < numbers.len() {
-        numbers[i] = next();
+        numbers[i] = next(reader)?;
         i += 1;
     }
+    Ok(())
 }
 
 // The data of a case, read behind its zeros.
-pub fn data(zeros: usize, buffer: &mut [u8]) {
+pub fn data<R: Read>(reader: &mut R, zeros: usize, buffer: &mut [u8]) -> io::Result<()> {
     if zeros <= buffer.len() {
-        io::read_full(0, &mut buffer[zeros..]);
+        read_full(reader, &mut buffer[zeros..])?;
     }
+    Ok(())
+}
+
+// Reads until a buffer is full or the reader ends, and answers how many bytes were put at the buffer's start.
+pub fn read_full<R: Read>(reader: &mut R, buffer: &mut [u8]) -> io::Result<usize>
+    ensures { ReadsAtMost result buffer.new }
+{
+    let mut done = 0;
+    while done < buffer.len() {
+        let count = reader.read(&mut buffer[done..])?;
+        if count == 0 {
+            break;
+        }
+        done += count;
+    }
+    Ok(done)
 }
 
 // The bytes from one offset up to another, or none where the data does not have them.

@@ -1,3 +1,5 @@
-// What test programs share: their cases, read from standard input, and what was got, printed as text.
+// What test programs share: their cases, read from a reader, and what was got, written as text.
+#![tactic(auto)]
+
 pub mod input;
 pub mod output;

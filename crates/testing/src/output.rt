@@ -1,84 +1,84 @@
 // What was got, as text.
+use crate::input;
 use compare::Compared;
 use refusal::{Refusal, Which};
+use std::io;
+use std::io::{Read, Write};
 
-// As many bytes of standard input as asked for, where the space has room.
-pub fn echo(length: usize, space: &mut [u8]) {
+// As many bytes of the reader as asked for, where the space has room.
+pub fn echo<R: Read, W: Write>(
+    reader: &mut R,
+    writer: &mut W,
+    length: usize,
+    space: &mut [u8],
+) -> io::Result<()> {
     if length <= space.len() {
-        pass(&mut space[0..length]);
+        pass(reader, writer, &mut space[0..length])?;
     }
+    Ok(())
 }
 
-// Standard input copied to standard output until the space is full or the input ends.
-fn pass(space: &mut [u8]) {
-    let got = io::read_full(0, space);
-    io::write_all(1, &space[..got]);
+// The reader copied to the writer until the space is full or the reader ends.
+fn pass<R: Read, W: Write>(reader: &mut R, writer: &mut W, space: &mut [u8]) -> io::Result<()> {
+    let got = input::read_full(reader, space)?;
+    writer.write_all(&space[..got])
 }
 
 // Whether two keys are the same, with the factors of both, or the refusal with the key that it is about.
-pub fn compared(got: Compared) {
+pub fn compared<W: Write>(writer: &mut W, got: Compared) -> io::Result<()> {
     match got {
         Compared::Same(taken) => {
-            io::write_all(1, b"same");
-            factors(taken);
+            writer.write_all(b"same")?;
+            factors(writer, taken)
         }
         Compared::Different(taken) => {
-            io::write_all(1, b"different");
-            factors(taken);
+            writer.write_all(b"different")?;
+            factors(writer, taken)
         }
         Compared::Refused(key, r) => {
-            which(key);
-            refusal(r);
+            which(writer, key)?;
+            refusal(writer, r)
         }
     }
 }
 
 // How many factors were taken.
-pub fn factors(taken: usize) {
-    io::write_all(1, b" factors ");
-    number(taken as u64);
+pub fn factors<W: Write>(writer: &mut W, taken: usize) -> io::Result<()> {
+    write!(writer, " factors {taken}")
 }
 
 // Which key a refusal is about.
-pub fn which(key: Which) {
+pub fn which<W: Write>(writer: &mut W, key: Which) -> io::Result<()> {
     match key {
-        Which::First => {
-            io::write_all(1, b"first ");
-        }
-        Which::Second => {
-            io::write_all(1, b"second ");
-        }
-        Which::Neither => {
-            io::write_all(1, b"neither ");
-        }
+        Which::First => writer.write_all(b"first "),
+        Which::Second => writer.write_all(b"second "),
+        Which::Neither => writer.write_all(b"neither "),
     }
 }
 
 // The places of a sheet.
-pub fn sheet(places: &[u32]) {
-    io::write_all(1, b" sheet");
+pub fn sheet<W: Write>(writer: &mut W, places: &[u32]) -> io::Result<()> {
+    writer.write_all(b" sheet")?;
     let mut i = 0;
     while i < places.len() {
-        spaced(places[i]);
+        spaced(writer, places[i])?;
         i += 1;
     }
+    Ok(())
 }
 
-fn spaced(x: u32) {
-    io::write_all(1, b" ");
-    number(x as u64);
+fn spaced<W: Write>(writer: &mut W, x: u32) -> io::Result<()> {
+    write!(writer, " {x}")
 }
 
 // A refusal: its number and its place.
-pub fn refusal(r: Refusal) {
-    let reason = r.reason;
-    io::write_all(1, b"refused ");
-    number(reason.number() as u64);
-    io::write_all(1, b" at ");
-    number(r.place as u64);
+pub fn refusal<W: Write>(writer: &mut W, r: Refusal) -> io::Result<()> {
+    let reason = r.reason.number();
+    let place = r.place;
+    write!(writer, "refused {reason} at {place}")
 }
 
 // A number.
-pub fn number(x: u64) {
-    io::print_decimal(1, x);
+pub fn number<W: Write>(writer: &mut W, x: u64) -> io::Result<()> {
+    write!(writer, "{x}")
 }
