@@ -1,4 +1,4 @@
-//! Links the proved library: the archive that `MORGANA_ARCHIVE` names, or the one that `rt staticlib morgana` leaves.
+//! Links the proved library: the archive that `MORGANA_ARCHIVE` names, or the one that `tools/build` leaves.
 
 use std::env;
 use std::path::{Path, PathBuf};
@@ -26,7 +26,7 @@ fn link(archive: &Path) -> Result<(), String> {
     println!("cargo::rerun-if-changed={shown}");
     if !archive.is_file() {
         return Err(format!(
-            "the archive {shown} is missing: run `rt staticlib morgana` first, or name an archive in MORGANA_ARCHIVE"
+            "the archive {shown} is missing: run `tools/build` first, or name an archive in MORGANA_ARCHIVE"
         ));
     }
     let path = |part: Option<&Path>| part.and_then(Path::to_str).map(str::to_owned);

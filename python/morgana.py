@@ -165,7 +165,7 @@ __all__ = [
     "MOST_ARRAYS", "MOST_BITS", "MOST_RATE", "SHEET", "SHEET_QUADRATIC", "FOLDER",
 ]
 
-__version__ = "0.8.0"
+__version__ = "0.7.0"
 
 # The folder of the installed library; empty in a module that is not installed.
 FOLDER = ""
@@ -381,7 +381,7 @@ def _chosen():
 
 
 def _version_text(number):
-    """The version that one number stands for, as 0.8.0."""
+    """The version that one number stands for, as 0.7.0."""
     return f"{number // 1_000_000}.{number // 1_000 % 1_000}.{number % 1_000}"
 
 
