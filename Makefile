@@ -1,9 +1,9 @@
 # The commands of the README.
 .PHONY: run build test bench fmt install uninstall capitals
 
-# Proves the library and runs the test programs.
+# Proves every crate and runs the test programs.
 run:
-	@rt check
+	@rt all test
 
 # Builds the libraries for C and Rust, keysheet and morgana.
 build:
@@ -18,7 +18,7 @@ bench:
 	@tools/bench
 
 fmt:
-	@rt fmt
+	@for crate in crates/*/; do (cd "$$crate" && rt fmt) || exit 1; done
 	@cd host && cargo fmt
 	@cd examples/rust && cargo fmt
 

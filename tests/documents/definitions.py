@@ -4,6 +4,7 @@ A name is followed from the contracts to the file that defines it, and from ther
 are reached must be those that docs/TRUST.md lists, with their lines, each behind those that it uses.
 """
 
+import os
 import re
 
 from .figures import text_of, want
@@ -12,8 +13,8 @@ from .sessions import Failed
 CONTRACTS = "crates/morgana/src/lib.rt"
 TRUST = "docs/TRUST.md"
 
-# `use Rattle·CRATE.specs.FILE.{NAMES}`, of the crate itself `Rattle·CRATE·specs.specs.FILE`.
-USE = re.compile(r"^(?:ghost )?use Rattle·(\w+?)(?:·specs)?\.specs\.([\w.]+?)\.\{([^}]*)\};?$", re.MULTILINE)
+# `use Rattle.CRATE.specs.FILE.{NAMES}`, of this repository's crates.
+USE = re.compile(r"^(?:ghost )?use Rattle\.(\w+)\.specs\.([\w.]+?)\.\{([^}]*)\};?$", re.MULTILINE)
 ANY_USE = re.compile(r"^use [^\n{]+\.\{[^}]*\}$", re.MULTILINE)
 
 # The first word of a definition behind what may stand before it.
@@ -24,6 +25,8 @@ def uses(text):
     """The names that a text takes from definitions, each with its crate and file."""
     found = {}
     for crate, file, names in USE.findall(text):
+        if not os.path.isdir(f"crates/{crate}"):
+            continue
         found |= {name.split(" as ")[-1].strip(): (crate, file, name.split(" as ")[0].strip()) for name in names.split(",")}
     return found
 
