@@ -2,9 +2,9 @@
 ghost use Rattle.std.specs.Prelude.{◌<◌};
 
 use crate::{moves, pairs, print, values};
-use field::Answer;
-use price::Priced;
+use field::Fp;
 use records::{Call, Cell, Record, ScaledCall, Shape};
+use refusal::Refusal;
 use std::io;
 use std::io::{Read, Write};
 use testing::input;
@@ -54,7 +54,7 @@ fn on<R: Read, W: Write>(
 }
 
 // The sum, the difference or the product of a case's operands.
-fn arithmetic(header: Header) -> Answer {
+fn arithmetic(header: Header) -> Result<Fp, Refusal> {
     let operation = header.operation;
     let a = (header.x % 4294967296) as u32;
     let b = (header.y % 4294967296) as u32;
@@ -66,7 +66,7 @@ fn arithmetic(header: Header) -> Answer {
 }
 
 // The price of a key at a case's rates.
-fn price(header: Header, key: &[u8]) -> Priced {
+fn price(header: Header, key: &[u8]) -> Result<usize, Refusal> {
     let fields = header.fields;
     price::price(key, fields[0], fields[1], fields[2])
 }

@@ -1,83 +1,90 @@
 // What was got, as text.
-use editions::Copied;
-use evaluate::{Evaluated, Values};
-use field::Answer;
-use key::{Checked, Counts};
-use locate::Located;
-use price::Priced;
-use records::{Record, Shape, Taken, Written};
-use refusal::Which;
+use evaluate::{Counted, Values};
+use field::Fp;
+use key::Counts;
+use locate::Cell;
+use records::{Record, Shape};
+use refusal::{PairRefusal, Refusal, Which};
 use std::io;
 use std::io::Write;
 use testing::output;
 
 // A number, or a refusal.
-pub(crate) fn answer<W: Write>(writer: &mut W, got: Answer) -> io::Result<()> {
+pub(crate) fn answer<W: Write>(writer: &mut W, got: Result<Fp, Refusal>) -> io::Result<()> {
     match got {
-        Answer::Element(x) => output::number(writer, x.value() as u64),
-        Answer::Refused(r) => output::refusal(writer, r),
+        Ok(x) => output::number(writer, x.value() as u64),
+        Err(r) => output::refusal(writer, r),
     }
 }
 
 // A record with its kind's name, its fields and the next offset, or a refusal.
-pub(crate) fn taken<W: Write>(writer: &mut W, got: Taken) -> io::Result<()> {
+pub(crate) fn taken<W: Write>(
+    writer: &mut W,
+    got: Result<(Record, usize), Refusal>,
+) -> io::Result<()> {
     match got {
-        Taken::Record(item, next) => {
+        Ok((item, next)) => {
             record(writer, item)?;
             write!(writer, "next {next}")
         }
-        Taken::Refused(r) => output::refusal(writer, r),
+        Err(r) => output::refusal(writer, r),
     }
 }
 
 // The next offset, or a refusal.
-pub(crate) fn written<W: Write>(writer: &mut W, got: Written) -> io::Result<()> {
+pub(crate) fn written<W: Write>(writer: &mut W, got: Result<usize, Refusal>) -> io::Result<()> {
     match got {
-        Written::Next(next) => write!(writer, "next {next}"),
-        Written::Refused(r) => output::refusal(writer, r),
+        Ok(next) => write!(writer, "next {next}"),
+        Err(r) => output::refusal(writer, r),
     }
 }
 
 // The length of a moved key, or a refusal.
-pub(crate) fn moved<W: Write>(writer: &mut W, got: Copied) -> io::Result<()> {
+pub(crate) fn moved<W: Write>(writer: &mut W, got: Result<usize, Refusal>) -> io::Result<()> {
     match got {
-        Copied::Length(length) => write!(writer, "length {length}"),
-        Copied::Refused(r) => output::refusal(writer, r),
+        Ok(length) => write!(writer, "length {length}"),
+        Err(r) => output::refusal(writer, r),
     }
 }
 
 // A price in pence, or a refusal.
-pub(crate) fn priced<W: Write>(writer: &mut W, got: Priced) -> io::Result<()> {
+pub(crate) fn priced<W: Write>(writer: &mut W, got: Result<usize, Refusal>) -> io::Result<()> {
     match got {
-        Priced::Pence(pence) => write!(writer, "price {pence}"),
-        Priced::Refused(r) => output::refusal(writer, r),
+        Ok(pence) => write!(writer, "price {pence}"),
+        Err(r) => output::refusal(writer, r),
     }
 }
 
 // The counts of an accepted key, or a refusal.
-pub(crate) fn checked<W: Write>(writer: &mut W, got: Checked) -> io::Result<()> {
+pub(crate) fn checked<W: Write>(writer: &mut W, got: Result<Counts, Refusal>) -> io::Result<()> {
     match got {
-        Checked::Accepted(c) => counts(writer, c),
-        Checked::Refused(r) => output::refusal(writer, r),
+        Ok(c) => counts(writer, c),
+        Err(r) => output::refusal(writer, r),
     }
 }
 
 // The values of A, B and C and the factors, or a refusal.
-pub(crate) fn evaluated<W: Write>(writer: &mut W, got: Evaluated) -> io::Result<()> {
+pub(crate) fn evaluated<W: Write>(
+    writer: &mut W,
+    got: Result<Counted<Fp>, Refusal>,
+) -> io::Result<()> {
     match got {
-        Evaluated::Values(v, taken) => {
-            values(writer, v)?;
-            output::factors(writer, taken)
+        Ok(counted) => {
+            values(writer, counted.values)?;
+            output::factors(writer, counted.factors)
         }
-        Evaluated::Refused(r) => output::refusal(writer, r),
+        Err(r) => output::refusal(writer, r),
     }
 }
 
 // "same", or a cell in which two keys differ with the values of both there, or the refusal with the key that it is about.
-pub(crate) fn located<W: Write>(writer: &mut W, got: Located) -> io::Result<()> {
+pub(crate) fn located<W: Write>(
+    writer: &mut W,
+    got: Result<Option<Cell>, PairRefusal>,
+) -> io::Result<()> {
     match got {
-        Located::Same => writer.write_all(b"same"),
-        Located::Differs(cell) => {
+        Ok(None) => writer.write_all(b"same"),
+        Ok(Some(cell)) => {
             writer.write_all(b"different at row ")?;
             field(writer, cell.row)?;
             writer.write_all(b"column ")?;
@@ -87,9 +94,9 @@ pub(crate) fn located<W: Write>(writer: &mut W, got: Located) -> io::Result<()> 
             writer.write_all(b" second ")?;
             values(writer, cell.second)
         }
-        Located::Refused(key, r) => {
-            output::which(writer, key)?;
-            output::refusal(writer, r)
+        Err(refused) => {
+            output::which(writer, refused.key)?;
+            output::refusal(writer, refused.refusal)
         }
     }
 }
@@ -105,7 +112,7 @@ pub(crate) fn shorter<W: Write>(writer: &mut W, key: Which, length: usize) -> io
 }
 
 // The values of A, B and C.
-fn values<W: Write>(writer: &mut W, v: Values) -> io::Result<()> {
+fn values<W: Write>(writer: &mut W, v: Values<Fp>) -> io::Result<()> {
     field(writer, v.a.value())?;
     field(writer, v.b.value())?;
     output::number(writer, v.c.value() as u64)
@@ -113,16 +120,10 @@ fn values<W: Write>(writer: &mut W, v: Values) -> io::Result<()> {
 
 // The bytes of a buffer from an offset on, in hexadecimal.
 pub(crate) fn bytes<W: Write>(writer: &mut W, buffer: &[u8], from: usize) -> io::Result<()> {
-    let mut i = from;
-    while i < buffer.len() {
-        byte(writer, buffer[i])?;
-        i += 1;
+    for byte in buffer.iter().skip(from) {
+        write!(writer, "{byte:02x}")?;
     }
     Ok(())
-}
-
-fn byte<W: Write>(writer: &mut W, x: u8) -> io::Result<()> {
-    write!(writer, "{x:02x}")
 }
 
 fn record<W: Write>(writer: &mut W, item: Record) -> io::Result<()> {

@@ -1,7 +1,8 @@
 // What compare answers over the points of a list of values: a letter for each, and how many of them are S and D.
 ghost use Rattle.std.specs.Prelude.{◌≤◌};
 
-use compare::Compared;
+use compare::{Compared, Likeness};
+use refusal::PairRefusal;
 use std::io;
 use std::io::Write;
 
@@ -27,13 +28,11 @@ pub(crate) fn over_points<W: Write>(
         same: 0,
         different: 0,
     };
-    let mut i = 0;
-    while i < lines {
+    for i in 0..lines {
         let from = value(values, i);
         tally = over_line(
             writer, tally, first, second, rows, columns, from, values, sheet,
         )?;
-        i += 1;
     }
     Ok(tally)
 }
@@ -60,15 +59,13 @@ fn over_line<W: Write>(
     sheet: &mut [u32],
 ) -> io::Result<Tally> {
     let mut tally = before;
-    let mut i = 0;
-    while i < values.len() {
-        let point = [from, value(values, i)];
+    for value in values {
+        let point = [from, *value];
         tally = counted(
             writer,
             tally,
             at(first, second, rows, columns, &point, sheet),
         )?;
-        i += 1;
     }
     Ok(tally)
 }
@@ -86,9 +83,9 @@ fn at(
     columns: usize,
     coordinates: &[u32],
     sheet: &mut [u32],
-) -> Compared {
-    let middle = without(coordinates.len(), columns);
-    let start = without(middle, rows);
+) -> Result<Compared, PairRefusal> {
+    let middle = coordinates.len().saturating_sub(columns);
+    let start = middle.saturating_sub(rows);
     compare::compare(
         first,
         second,
@@ -98,29 +95,26 @@ fn at(
     )
 }
 
-// A number less another, or 0 where that is greater.
-fn without(a: usize, b: usize) -> usize
-    ensures { result ≤ a }
-{
-    if b < a { a - b } else { 0 }
-}
-
 // The tally with one answer more, whose letter is printed.
-fn counted<W: Write>(writer: &mut W, tally: Tally, got: Compared) -> io::Result<Tally> {
+fn counted<W: Write>(
+    writer: &mut W,
+    tally: Tally,
+    got: Result<Compared, PairRefusal>,
+) -> io::Result<Tally> {
     let mut same = tally.same;
     let mut different = tally.different;
     match got {
-        Compared::Same(_) => {
-            writer.write_all(b"S")?;
-            same = std::num::wrapping_add_u32(same, 1);
-        }
-        Compared::Different(_) => {
-            writer.write_all(b"D")?;
-            different = std::num::wrapping_add_u32(different, 1);
-        }
-        Compared::Refused(_, _) => {
-            writer.write_all(b"R")?;
-        }
+        Ok(compared) => match compared.likeness {
+            Likeness::Same => {
+                writer.write_all(b"S")?;
+                same = std::num::wrapping_add_u32(same, 1);
+            }
+            Likeness::Different => {
+                writer.write_all(b"D")?;
+                different = std::num::wrapping_add_u32(different, 1);
+            }
+        },
+        Err(_) => writer.write_all(b"R")?,
     }
     Ok(Tally {
         same: same,

@@ -1,8 +1,9 @@
 // The two calls, made with a case's keys, its point and its sheet.
 ghost use Rattle.std.specs.Prelude.{◌<◌};
 
-use evaluate_quadratic::Evaluated;
+use evaluate::Counted;
 use quadratic::Fp2;
+use refusal::Refusal;
 use std::io;
 use std::io::{Read, Write};
 use testing::input::Header;
@@ -105,17 +106,18 @@ fn compare<W: Write>(
 }
 
 // The two numbers each of A, B and C and the factors, or a refusal.
-fn evaluated<W: Write>(writer: &mut W, got: Evaluated) -> io::Result<()> {
+fn evaluated<W: Write>(writer: &mut W, got: Result<Counted<Fp2>, Refusal>) -> io::Result<()> {
     match got {
-        Evaluated::Values(v, taken) => {
-            element(writer, v.a)?;
+        Ok(counted) => {
+            let values = counted.values;
+            element(writer, values.a)?;
             writer.write_all(b" ")?;
-            element(writer, v.b)?;
+            element(writer, values.b)?;
             writer.write_all(b" ")?;
-            element(writer, v.c)?;
-            output::factors(writer, taken)
+            element(writer, values.c)?;
+            output::factors(writer, counted.factors)
         }
-        Evaluated::Refused(r) => output::refusal(writer, r),
+        Err(r) => output::refusal(writer, r),
     }
 }
 

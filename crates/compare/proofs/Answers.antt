@@ -1,22 +1,35 @@
 -- An answer is determined by what it says.
+use Rattle.std.specs.Prelude.{Result, Ok, Err}
 use Prim.Native.Nat.{ℕ}
-use mathlib.Core.Path.{◌≡◌, ap, ap₂}
+use mathlib.Core.Path.{◌≡◌, refl, sym}
 use native.Mathlib.Omega.{arith}
 use Rattle.refusal.specs.Outcome.{refusal_of}
+use Rattle.refusal.specs.declared.PairRefusal.{PairRefusal}
+use Rattle.refusal.specs.declared.Which.{Which}
 use Rattle.refusal.proofs.Outcomes.{refusal-injective}
-use Rattle.compare.specs.Answer.{compared_answer, compared_factors}
+use Rattle.comparison.specs.Compare.{refused_for}
+use Rattle.compare.specs.Answer.{likeness_answer, compared_answer, compared_factors}
 use Rattle.compare.specs.declared.Compared.{Compared}
+use Rattle.compare.specs.declared.Likeness.{Likeness}
 
-pub compared-injective : (r s : Compared) → compared_answer r ≡ compared_answer s → compared_factors r ≡ compared_factors s → r ≡ s
-compared-injective (Compared.Same m) (Compared.Same n) e f = ap Compared.Same f
-compared-injective (Compared.Same m) (Compared.Different n) e f = let o : ◌≡◌ {A = ℕ} 0 1 = cc in absurd (omega arith)
-compared-injective (Compared.Same m) (Compared.Refused w h) e f = let o : ◌≡◌ {A = ℕ} 0 1 = cc in absurd (omega arith)
-compared-injective (Compared.Different m) (Compared.Same n) e f = let o : ◌≡◌ {A = ℕ} 0 1 = cc in absurd (omega arith)
-compared-injective (Compared.Different m) (Compared.Different n) e f = ap Compared.Different f
-compared-injective (Compared.Different m) (Compared.Refused w h) e f = let o : ◌≡◌ {A = ℕ} 0 1 = cc in absurd (omega arith)
-compared-injective (Compared.Refused v g) (Compared.Same n) e f = let o : ◌≡◌ {A = ℕ} 0 1 = cc in absurd (omega arith)
-compared-injective (Compared.Refused v g) (Compared.Different n) e f = let o : ◌≡◌ {A = ℕ} 0 1 = cc in absurd (omega arith)
-compared-injective (Compared.Refused v g) (Compared.Refused w h) e f =
-    let which : v ≡ w = cc in
-    let said : refusal_of {A = ℕ} g ≡ refusal_of h = cc in
-    ap₂ Compared.Refused which (refusal-injective g h said)
+likeness-injective : (l m : Likeness) → likeness_answer l ≡ likeness_answer m → l ≡ m
+likeness-injective Likeness.Same Likeness.Same e = refl
+likeness-injective Likeness.Same Likeness.Different e = let o : ◌≡◌ {A = ℕ} 0 1 = cc in absurd (omega arith)
+likeness-injective Likeness.Different Likeness.Same e = let o : ◌≡◌ {A = ℕ} 0 1 = cc in absurd (omega arith)
+likeness-injective Likeness.Different Likeness.Different e = refl
+
+likeness-not-refused : {A : Type 0} (l : Likeness) (key : Which) (number place : ℕ) → likeness_answer l ≡ refused_for key number place → A
+likeness-not-refused Likeness.Same key number place e = let o : ◌≡◌ {A = ℕ} 0 1 = cc in absurd (omega arith)
+likeness-not-refused Likeness.Different key number place e = let o : ◌≡◌ {A = ℕ} 0 1 = cc in absurd (omega arith)
+
+pub compared-injective : (r s : Result Compared PairRefusal) → compared_answer r ≡ compared_answer s → compared_factors r ≡ compared_factors s →
+    r ≡ s
+compared-injective (Ok r) (Ok s) e f =
+    let likeness = likeness-injective r.likeness s.likeness e in λ i. Ok (record { likeness = likeness i; factors = f i })
+compared-injective (Ok r) (Err h) e f = likeness-not-refused r.likeness _ _ _ e
+compared-injective (Err g) (Ok s) e f = likeness-not-refused s.likeness _ _ _ (sym e)
+compared-injective (Err g) (Err h) e f =
+    let key : g.key ≡ h.key = cc in
+    let said : refusal_of {A = ℕ} g.refusal ≡ refusal_of h.refusal = cc in
+    let refusal = refusal-injective g.refusal h.refusal said in
+    λ i. Err (record { key = key i; refusal = refusal i })

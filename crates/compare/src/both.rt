@@ -1,56 +1,51 @@
 // The passes over two keys at one point, whose sides are prepared once for both.
-ghost use Rattle.std.specs.Prelude.{◌≡◌, ◌+◌, length};
-ghost use Rattle.field.specs.Scalars.{prime};
+ghost use Rattle.std.specs.Mem.{type_size};
+ghost use Rattle.std.specs.Prelude.{◌≡◌, ◌+◌, ◌≤◌, length};
 ghost use Rattle.weights.specs.Side.{Ready};
-ghost use Rattle.weights.specs.Words.{singles};
-ghost use Rattle.evaluate.specs.Answer.{values_in};
+ghost use Rattle.evaluate.specs.Answer.{values_of};
 ghost use Rattle.comparison.specs.Compare.{likeness};
 ghost use Rattle.comparison.specs.Inner.{Evaluable, factors_at, likeness_at, both_written};
-ghost use Rattle.compare.specs.Answer.{compared_answer, compared_factors};
+ghost use Rattle.compare.specs.Answer.{likeness_answer};
 
-use crate::{Compared, filled};
+use crate::{Compared, Likeness, filled};
 use evaluate::Values;
-use indexed::work;
+use indexed::{IndexedKey, work};
 use key::Counts;
+use scalar::Scalar;
 use weights::table;
 
-// Whether the two keys' three numbers are equal at a point, and how many factors were taken for both. The sheet ends with those of the
+// Whether the two keys' three values are equal at a point, and how many factors were taken for both. The sheet ends with those of the
 // second key's arrays over those of the first's. Weights of limbs are prepared where they are estimated to save more, in both keys
-// together, than they cost (`work`). Inner: both keys can be evaluated at the point on the sheet.
-pub(crate) fn run(
-    first: &[u8],
-    first_starts: &[u16],
+// together, than they cost (`work`). Inner: both keys can be evaluated at the point on the sheet, and an element takes few bytes.
+pub(crate) fn run<S: Scalar>(
+    first: &IndexedKey<'_>,
     first_counts: Counts,
-    second: &[u8],
-    second_starts: &[u16],
+    second: &IndexedKey<'_>,
     second_counts: Counts,
     rows: &[u32],
     columns: &[u32],
     sheet: &mut [u32],
 ) -> Compared
-    requires evaluable { Evaluable prime first.now first_starts.now first_counts rows.now columns.now (length sheet.old) }
-    requires evaluable_2 { Evaluable prime second.now second_starts.now second_counts rows.now columns.now (length sheet.old) }
-    ensures answer { compared_answer result ≡
-        likeness_at prime first.now first_counts second.now second_counts rows.now
-        columns.now }
-    ensures factors { compared_factors result ≡
-        factors_at prime first.now first_counts rows.now columns.now
-        + factors_at prime second.now second_counts rows.now columns.now }
+    requires few_bytes { type_size S.row ≤ 16 }
+    requires evaluable { Evaluable S.elements.scalars first.now.bytes.now first_counts rows.now columns.now (length sheet.old) }
+    requires evaluable_2 { Evaluable S.elements.scalars second.now.bytes.now second_counts rows.now columns.now (length sheet.old) }
+    ensures answer { likeness_answer result.likeness ≡
+        likeness_at S.elements.scalars first.now.bytes.now first_counts second.now.bytes.now second_counts rows.now columns.now }
+    ensures factors { result.factors ≡
+        factors_at S.elements.scalars first.now.bytes.now first_counts rows.now columns.now
+        + factors_at S.elements.scalars second.now.bytes.now second_counts rows.now columns.now }
     ensures sheet { sheet.new ≡
-        both_written prime first.now first_counts second.now second_counts rows.now
+        both_written S.elements.scalars first.now.bytes.now first_counts second.now.bytes.now second_counts rows.now
         columns.now sheet.old }
 {
-    let first_saved = work::saved(first, first_starts, first_counts.arrays);
-    let second_saved = work::saved(second, second_starts, second_counts.arrays);
-    if work::limbs_pay(first_saved + second_saved, rows.len() + columns.len()) {
-        let mut rowwise = [0u32; table::LIMB_PLACES];
-        let mut columnwise = [0u32; table::LIMB_PLACES];
+    let saved = work::saved(first) + work::saved(second);
+    if work::limbs_pay(saved, rows.len() / S::WIDTH + columns.len() / S::WIDTH) {
+        let mut rowwise = [S::zero(); table::LIMB_PLACES];
+        let mut columnwise = [S::zero(); table::LIMB_PLACES];
         return by_sides(
             first,
-            first_starts,
             first_counts,
             second,
-            second_starts,
             second_counts,
             rows,
             columns,
@@ -59,14 +54,12 @@ pub(crate) fn run(
             sheet,
         );
     }
-    let mut rowwise = [0u32; table::PLACES];
-    let mut columnwise = [0u32; table::PLACES];
+    let mut rowwise = [S::zero(); table::PLACES];
+    let mut columnwise = [S::zero(); table::PLACES];
     by_sides(
         first,
-        first_starts,
         first_counts,
         second,
-        second_starts,
         second_counts,
         rows,
         columns,
@@ -77,70 +70,61 @@ pub(crate) fn run(
 }
 
 // The same, with tables to be filled for the two sides. Inner: they have places for them.
-fn by_sides(
-    first: &[u8],
-    first_starts: &[u16],
+fn by_sides<S: Scalar>(
+    first: &IndexedKey<'_>,
     first_counts: Counts,
-    second: &[u8],
-    second_starts: &[u16],
+    second: &IndexedKey<'_>,
     second_counts: Counts,
     rows: &[u32],
     columns: &[u32],
-    rowwise: &mut [u32],
-    columnwise: &mut [u32],
+    rowwise: &mut [S],
+    columnwise: &mut [S],
     sheet: &mut [u32],
 ) -> Compared
-    requires evaluable { Evaluable prime first.now first_starts.now first_counts rows.now columns.now (length sheet.old) }
-    requires evaluable_2 { Evaluable prime second.now second_starts.now second_counts rows.now columns.now (length sheet.old) }
-    requires ready { Ready singles rowwise.old × Ready singles columnwise.old }
-    ensures answer { compared_answer result ≡
-        likeness_at prime first.now first_counts second.now second_counts rows.now
-        columns.now }
-    ensures factors { compared_factors result ≡
-        factors_at prime first.now first_counts rows.now columns.now
-        + factors_at prime second.now second_counts rows.now columns.now }
+    requires evaluable { Evaluable S.elements.scalars first.now.bytes.now first_counts rows.now columns.now (length sheet.old) }
+    requires evaluable_2 { Evaluable S.elements.scalars second.now.bytes.now second_counts rows.now columns.now (length sheet.old) }
+    requires ready { Ready rowwise.old × Ready columnwise.old }
+    ensures answer { likeness_answer result.likeness ≡
+        likeness_at S.elements.scalars first.now.bytes.now first_counts second.now.bytes.now second_counts rows.now columns.now }
+    ensures factors { result.factors ≡
+        factors_at S.elements.scalars first.now.bytes.now first_counts rows.now columns.now
+        + factors_at S.elements.scalars second.now.bytes.now second_counts rows.now columns.now }
     ensures sheet { sheet.new ≡
-        both_written prime first.now first_counts second.now second_counts rows.now
+        both_written S.elements.scalars first.now.bytes.now first_counts second.now.bytes.now second_counts rows.now
         columns.now sheet.old }
 {
     table::prepare(rows, rowwise);
     table::prepare(columns, columnwise);
     let one = filled::triple(
         first,
-        first_starts,
         first_counts,
         rows,
         columns,
-        rowwise,
-        columnwise,
+        &*rowwise,
+        &*columnwise,
         sheet,
     );
     let other = filled::triple(
         second,
-        second_starts,
         second_counts,
         rows,
         columns,
-        rowwise,
-        columnwise,
+        &*rowwise,
+        &*columnwise,
         sheet,
     );
-    likeness(one.values, other.values, one.factors + other.factors)
+    Compared {
+        likeness: likeness(one.values, other.values),
+        factors: one.factors + other.factors,
+    }
 }
 
-// Whether all three numbers are equal, where so many factors were taken.
-fn likeness(one: Values, other: Values, factors: usize) -> Compared
-    ensures answer { compared_answer result ≡ likeness prime (values_in one) (values_in other) }
-    ensures factors { compared_factors result ≡ factors }
+// Whether A, B and C are equal.
+fn likeness<S: Scalar>(one: Values<S>, other: Values<S>) -> Likeness
+    ensures { likeness_answer result ≡ likeness S.elements.scalars (values_of S.elements one) (values_of S.elements other) }
 {
-    if one.a.value() != other.a.value() {
-        return Compared::Different(factors);
+    if one == other {
+        return Likeness::Same;
     }
-    if one.b.value() != other.b.value() {
-        return Compared::Different(factors);
-    }
-    if one.c.value() != other.c.value() {
-        return Compared::Different(factors);
-    }
-    Compared::Same(factors)
+    Likeness::Different
 }

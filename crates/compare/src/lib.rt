@@ -1,27 +1,35 @@
-// Two keys compared at a point (01, 'Comparing two keys'; 02, E7).
+// Two keys compared at a point (01, 'Comparing two keys'; 02, E7), over the field of p or that of p² (E2).
 #![tactic(auto)]
 
 mod both;
 mod filled;
 
+ghost use Rattle.std.specs.Mem.{type_size};
 ghost use Rattle.std.specs.Prelude.{◌≡◌, min, ◌/◌, ◌≤◌, length};
 ghost use Rattle.field.specs.Scalars.{prime};
 ghost use Rattle.comparison.specs.AgreementBound.{Agreement};
 ghost use Rattle.comparison.specs.Compare.{compared, BothLimited};
 ghost use Rattle.compare.specs.Answer.{compared_answer, compared_factors};
 
-use key::Checked;
-use refusal::{Refusal, Which};
+use field::Fp;
+use indexed::IndexedKey;
+use refusal::{PairRefusal, Refusal};
+use scalar::Scalar;
 
-// What compare answers.
+// Whether two keys are found the same at a point.
+#[derive(Clone, Copy, PartialEq, Eq)]
+pub enum Likeness {
+    // All three numbers are equal there.
+    Same,
+    // At least one of the three differs.
+    Different,
+}
+
+// What compare answers: whether the keys are found the same, and how many factors were taken for both (02, E4).
 #[derive(Clone, Copy)]
-pub enum Compared {
-    // All three numbers are equal at the point. How many factors were taken for both keys (02, E4) stands beside it.
-    Same(usize),
-    // At least one of the three differs; likewise.
-    Different(usize),
-    // A key, the point or the sheet is at fault, and nothing is written.
-    Refused(Which, Refusal),
+pub struct Compared {
+    pub likeness: Likeness,
+    pub factors: usize,
 }
 
 // Whether two keys have the same A, B and C at a point. Where their shapes differ, the point has as many coordinates as the larger bits,
@@ -37,7 +45,7 @@ pub fn compare(
     rows: &[u32],
     columns: &[u32],
     sheet: &mut [u32],
-) -> Compared
+) -> Result<Compared, PairRefusal>
     ensures answer { compared_answer result ≡
         (compared prime first.now second.now rows.now columns.now sheet.old
         ).answer }
@@ -50,11 +58,35 @@ pub fn compare(
     ensures agreement { Agreement prime first.now second.now }
     ensures limit { BothLimited first.now second.now (compared_factors result) }
 {
+    over::<Fp>(first, second, rows, columns, sheet)
+}
+
+// The same over any field. Inner: an element takes few bytes.
+pub fn over<S: Scalar>(
+    first: &[u8],
+    second: &[u8],
+    rows: &[u32],
+    columns: &[u32],
+    sheet: &mut [u32],
+) -> Result<Compared, PairRefusal>
+    requires { type_size S.row ≤ 16 }
+    ensures answer { compared_answer result ≡
+        (compared S.elements.scalars first.now second.now rows.now columns.now sheet.old
+        ).answer }
+    ensures factors { compared_factors result ≡
+        (compared S.elements.scalars first.now second.now rows.now columns.now sheet.old
+        ).factors }
+    ensures sheet { sheet.new ≡
+        (compared S.elements.scalars first.now second.now rows.now columns.now sheet.old
+        ).sheet }
+    ensures agreement { Agreement S.elements.scalars first.now second.now }
+    ensures limit { BothLimited first.now second.now (compared_factors result) }
+{
     if first.len() < key::SHORT {
         if second.len() < key::SHORT {
             let mut first_short = [0u16; key::SHORT_ARRAYS];
             let mut second_short = [0u16; key::SHORT_ARRAYS];
-            return by_tables(
+            return by_tables::<S>(
                 first,
                 second,
                 rows,
@@ -67,7 +99,7 @@ pub fn compare(
     }
     let mut first_starts = [0u16; key::MOST_ARRAYS];
     let mut second_starts = [0u16; key::MOST_ARRAYS];
-    by_tables(
+    by_tables::<S>(
         first,
         second,
         rows,
@@ -80,7 +112,7 @@ pub fn compare(
 
 // The same, with tables for the offsets of the keys' arrays. Inner: each has a place for each array that a key of its key's length may
 // have.
-fn by_tables(
+fn by_tables<S: Scalar>(
     first: &[u8],
     second: &[u8],
     rows: &[u32],
@@ -88,40 +120,40 @@ fn by_tables(
     sheet: &mut [u32],
     first_starts: &mut [u16],
     second_starts: &mut [u16],
-) -> Compared
+) -> Result<Compared, PairRefusal>
+    requires few_bytes { type_size S.row ≤ 16 }
     requires first_in_bounds { min 1024 (length first.now / 3) ≤ length first_starts.old }
     requires second_in_bounds { min 1024 (length second.now / 3) ≤ length second_starts.old }
     ensures answer { compared_answer result ≡
-        (compared prime first.now second.now rows.now columns.now sheet.old
+        (compared S.elements.scalars first.now second.now rows.now columns.now sheet.old
         ).answer }
     ensures factors { compared_factors result ≡
-        (compared prime first.now second.now rows.now columns.now sheet.old
+        (compared S.elements.scalars first.now second.now rows.now columns.now sheet.old
         ).factors }
     ensures sheet { sheet.new ≡
-        (compared prime first.now second.now rows.now columns.now sheet.old
+        (compared S.elements.scalars first.now second.now rows.now columns.now sheet.old
         ).sheet }
 {
-    let first_counts = match key::index(first, first_starts) {
-        Checked::Refused(refusal) => return Compared::Refused(Which::First, refusal),
-        Checked::Accepted(counts) => counts,
-    };
-    let second_counts = match key::index(second, second_starts) {
-        Checked::Refused(refusal) => return Compared::Refused(Which::Second, refusal),
-        Checked::Accepted(counts) => counts,
-    };
-    match judge::pair(first_counts, second_counts, 1, rows, columns, sheet.len()) {
-        Checked::Refused(refusal) => return Compared::Refused(Which::Neither, refusal),
-        Checked::Accepted(_) => (),
-    }
-    both::run(
-        first,
-        &*first_starts,
+    let first_counts = key::index(first, first_starts).map_err(Refusal::of_first)?;
+    let second_counts = key::index(second, second_starts).map_err(Refusal::of_second)?;
+    judge::pair(
         first_counts,
-        second,
-        &*second_starts,
+        second_counts,
+        S::WIDTH,
+        rows,
+        columns,
+        sheet.len(),
+    )
+    .map_err(Refusal::of_neither)?;
+    let one = IndexedKey::new(first, &*first_starts, first_counts.arrays);
+    let other = IndexedKey::new(second, &*second_starts, second_counts.arrays);
+    Ok(both::run::<S>(
+        &one,
+        first_counts,
+        &other,
         second_counts,
         rows,
         columns,
         sheet,
-    )
+    ))
 }

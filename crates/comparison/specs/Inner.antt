@@ -3,10 +3,9 @@ use Rattle.std.specs.Prelude.{ℕ, ◌*◌, ◌≤◌, List, ◌≡◌, length}
 use Rattle.refusal.specs.Outcome.{given}
 use Rattle.field.specs.Scalars.{Scalars}
 use Rattle.records.specs.declared.Shape.{Shape}
+use Rattle.scalar.specs.Elements.{Elements}
 use Rattle.weights.specs.Side.{prepared}
-use Rattle.weights.specs.Words.{Words}
 use Rattle.key.specs.Check.{checked_key}
-use Rattle.key.specs.Indexed.{Indexed}
 use Rattle.key.specs.declared.Counts.{Counts}
 use Rattle.judge.specs.Inner.{Coordinates}
 use Rattle.evaluation.specs.Inner.{written_by}
@@ -20,18 +19,17 @@ pub record Serves (𝓢 : Scalars) (own : Counts) (rows columns : List ℕ) (pla
   pub columns_given : Coordinates 𝓢 own.columns columns
   pub room : places_of 𝓢 * own.arrays ≤ places
 
--- an accepted and indexed key of these counts, with a point and a sheet of so many places for it
-pub record Evaluable (𝓢 : Scalars) (key starts : List ℕ) (own : Counts) (rows columns : List ℕ) (places : ℕ) : Type 0 where
-  pub indexed : Indexed key starts
+-- an accepted key of these counts, with a point and a sheet of so many places for it
+pub record Evaluable (𝓢 : Scalars) (key : List ℕ) (own : Counts) (rows columns : List ℕ) (places : ℕ) : Type 0 where
   pub accepted : checked_key key ≡ given own
   pub serves : Serves 𝓢 own rows columns places
 
 -- what the coordinates weigh that a key of these counts doesn't use, by the tables of two sides of as many coordinates as `most` has bits:
 -- as a call at position 0 does
-abbrev pub unused_by : (𝓦 : Words) → Counts → Shape → List ℕ → List ℕ → 𝓦.scalars.arithmetic.Carrier
-unused_by 𝓦 own most rowwise columnwise =
-    𝓦.scalars.arithmetic.mul ((prepared 𝓦 rowwise).factor most.rows own.rows 0)
-    ((prepared 𝓦 columnwise).factor most.columns own.columns 0)
+abbrev pub unused_by : {E : Type 0} (𝓔 : Elements E) → Counts → Shape → List E → List E → 𝓔.scalars.arithmetic.Carrier
+unused_by 𝓔 own most rowwise columnwise =
+    𝓔.scalars.arithmetic.mul ((prepared 𝓔 rowwise).factor most.rows own.rows 0)
+    ((prepared 𝓔 columnwise).factor most.columns own.columns 0)
 
 -- the factors of such a key at a point
 abbrev pub factors_at : Scalars → List ℕ → Counts → List ℕ → List ℕ → ℕ

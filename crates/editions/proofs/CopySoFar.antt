@@ -1,4 +1,5 @@
 -- The copy while it is written, before the record at an offset.
+use Rattle.std.specs.Prelude.{Ok}
 use Prim.Native.Nat.{ℕ, ◌+◌, ◌≤◌}
 use mathlib.Core.List.{flat_map, List, ◌++◌, map}
 use mathlib.Core.Path.{◌≡◌, sym, ap, ap₂, ◌∙◌}
@@ -8,7 +9,6 @@ use Rattle.records.specs.Kinds.{encoded, bytes_of_all}
 use Rattle.records.specs.Put.{overwritten}
 use Rattle.records.specs.Take.{taken_outcome, taken_at}
 use Rattle.records.specs.declared.Record.{Record}
-use Rattle.records.specs.declared.Taken.{Taken}
 use Rattle.records.proofs.NumberBytes.{AreBytes}
 use Rattle.key.specs.Index.{Runs}
 use Rattle.key.specs.Indexed.{IsAccepted}
@@ -31,7 +31,7 @@ module _ (key copied : List ℕ) where
     pub same : overwritten (moved_bytes todo) buffer to ≡ copied
 
   module _ (buffer : List ℕ) (at to : ℕ) (partway : Partway buffer at to) where
-    module _ (item : Record) (next : ℕ) (taken : taken_at key at ≡ taken_outcome (Taken.Record item next)) where
+    module _ (item : Record) (next : ℕ) (taken : taken_at key at ≡ taken_outcome (Ok (item, next))) where
       n : Next key at partway.todo item next
       n = run-next key at partway.todo partway.runs item next taken
 

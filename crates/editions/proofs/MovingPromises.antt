@@ -1,4 +1,5 @@
 -- What moving promises, from what the code finds.
+use Rattle.std.specs.Prelude.{Result}
 use Prim.Native.Nat.{ℕ, ◌≤◌, ◌<◌}
 use mathlib.Core.List.{List, [], ◌∷◌}
 use mathlib.Core.Path.{◌≡◌, refl, sym, ap, ◌∙◌}
@@ -11,10 +12,9 @@ use Rattle.records.specs.Put.{overwritten}
 use Rattle.key.specs.Check.{checked_key}
 use Rattle.key.specs.declared.Counts.{Counts}
 use Rattle.editions.specs.Move.{copied_outcome, moved_key, other_factors, Moving, moving}
-use Rattle.editions.specs.declared.Copied.{Copied}
 use Rattle.editions.proofs.MovingCases.{untouched, key-refused, factor-refused, length-refused, room-refused, copy-given}
 
-module _ (key buffer : List ℕ) (answer : Copied) where
+module _ (key buffer : List ℕ) (answer : Result ℕ Refusal) where
   abbrev Promise : List ℕ → Type 0
   Promise after = (copied_outcome answer ≡ (moving key buffer).answer) × (after ≡ (moving key buffer).buffer)
 

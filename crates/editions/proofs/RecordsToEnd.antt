@@ -1,4 +1,5 @@
 -- Records that run to a key's end: the one that is taken next, and those behind it.
+use Rattle.std.specs.Prelude.{Ok}
 use Prim.Native.Nat.{ℕ, ◌+◌, ◌≤◌, ◌<◌}
 use mathlib.Core.List.{List, [], ◌∷◌}
 use mathlib.Core.Path.{◌≡◌, refl, sym, ap, subst, ◌∙◌}
@@ -6,11 +7,10 @@ use native.Mathlib.Omega.{arith}
 use lib.ListN.{length}
 use Rattle.refusal.specs.Outcome.{refusal_of}
 use Rattle.refusal.specs.declared.Refusal.{Refusal}
-use Rattle.refusal.proofs.Outcomes.{given-not-refused}
+use Rattle.refusal.proofs.Outcomes.{ok-injective, given-not-refused}
 use Rattle.records.specs.Kinds.{encoded}
 use Rattle.records.specs.Take.{taken_outcome, taken_at}
 use Rattle.records.specs.declared.Record.{Record}
-use Rattle.records.specs.declared.Taken.{Taken}
 use Rattle.records.proofs.Answers.{taken-injective}
 use Rattle.records.proofs.TakeCases.{given-onward}
 use Rattle.key.specs.Index.{Runs}
@@ -24,17 +24,17 @@ module _ (key : List ℕ) (at : ℕ) where
     pub runs : Runs key next rest (length key)
 
   -- one is taken only before the key's end
-  pub taken-inside : (item : Record) (next : ℕ) → taken_at key at ≡ taken_outcome (Taken.Record item next) →
+  pub taken-inside : (item : Record) (next : ℕ) → taken_at key at ≡ taken_outcome (Ok (item, next)) →
       (at < next) × (next ≤ length key)
   taken-inside item next taken = given-onward key at _ taken
 
   pub run-next : (todo : List Record) → Runs key at todo (length key) → (item : Record) (next : ℕ) →
-      taken_at key at ≡ taken_outcome (Taken.Record item next) → Next todo item next
+      taken_at key at ≡ taken_outcome (Ok (item, next)) → Next todo item next
   run-next [] runs item next taken = absurd (omega (arith, runs, taken-inside item next taken))
   run-next (r ∷ rest) runs item next taken =
-      let same : Taken.Record r (at + length (encoded r)) ≡ Taken.Record item next = taken-injective _ _ (sym runs.0 ∙ taken) in
-      let is : r ≡ item = cc in
-      let further : at + length (encoded r) ≡ next = cc in
+      let same = ok-injective (taken-injective (Ok (r, at + length (encoded r))) (Ok (item, next)) (sym runs.0 ∙ taken)) in
+      let is : r ≡ item = ap (λ (x : Record × ℕ). x.0) same in
+      let further : at + length (encoded r) ≡ next = ap (λ (x : Record × ℕ). x.1) same in
       record {
         rest = rest;
         is = ap (λ (r : Record). r ∷ rest) is;

@@ -1,4 +1,5 @@
 -- The search for a factor other than 1, before the record at an offset.
+use Rattle.std.specs.Prelude.{Ok}
 use Prim.Native.Nat.{ℕ, ◌≤◌}
 use mathlib.Core.Bool.{Bool, true, false, cond}
 use mathlib.Core.List.{flat_map, List, [], ◌∷◌, ◌++◌}
@@ -6,7 +7,6 @@ use mathlib.Core.Path.{◌≡◌, sym, ap, ap₂, ◌∙◌}
 use lib.ListN.{length, get_or}
 use Rattle.records.specs.Take.{taken_outcome, taken_at}
 use Rattle.records.specs.declared.Record.{Record}
-use Rattle.records.specs.declared.Taken.{Taken}
 use Rattle.records.proofs.NumberBytes.{AreBytes}
 use Rattle.key.specs.Encoding.{key_records}
 use Rattle.key.specs.Index.{Runs}
@@ -43,7 +43,7 @@ module _ (key : List ℕ) where
   all-ahead a are = record { todo = records_in key; runs = all-run key a.0 a.1 are; same = factors-lie key }
 
   module _ (at : ℕ) (ahead : Ahead at) where
-    module _ (item : Record) (next : ℕ) (taken : taken_at key at ≡ taken_outcome (Taken.Record item next)) where
+    module _ (item : Record) (next : ℕ) (taken : taken_at key at ≡ taken_outcome (Ok (item, next))) where
       n : Next key at ahead.todo item next
       n = run-next key at ahead.todo ahead.runs item next taken
 

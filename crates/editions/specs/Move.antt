@@ -1,19 +1,18 @@
 -- A key moved into the other edition (02, E9): the copy, what the call answers, and every byte of the buffer afterwards.
-use Rattle.std.specs.Prelude.{ℕ, Bool, false, cond, not, eqb, ltb, length}
+use Rattle.std.specs.Prelude.{Result, ℕ, Bool, false, cond, not, eqb, ltb, length}
 use mathlib.Core.List.{List, [], ◌∷◌, map, flat_map}
-use Rattle.refusal.specs.Outcome.{Outcome, given, refused, refuse, refusal_of, and_then}
+use Rattle.refusal.specs.Outcome.{Outcome, given, refused, refuse, outcome, and_then}
 use Rattle.refusal.specs.declared.Reason.{Reason}
+use Rattle.refusal.specs.declared.Refusal.{Refusal}
 use Rattle.records.specs.Kinds.{with_factor, without_factor, bytes_of_all}
 use Rattle.records.specs.Put.{overwritten}
 use Rattle.records.specs.declared.Record.{Record}
 use Rattle.key.specs.Check.{checked_key}
 use Rattle.key.specs.Reading.{Located, reading_of, located_in, records_in}
-use Rattle.editions.specs.declared.Copied.{Copied}
 
--- what each case of the answer says: the copy's length
-abbrev pub copied_outcome : Copied → Outcome ℕ
-copied_outcome (Copied.Length copy) = given copy
-copied_outcome (Copied.Refused f) = refusal_of f
+-- what is answered: the copy's length
+abbrev pub copied_outcome : Result ℕ Refusal → Outcome ℕ
+copied_outcome = outcome
 
 -- a record in the other edition: a head is the other head, a call gets the factor 1 or loses its factor, and all others are as they were
 abbrev pub moved_record : Record → Record

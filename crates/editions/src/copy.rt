@@ -5,7 +5,7 @@ ghost use Rattle.records.specs.Put.{overwritten};
 ghost use Rattle.key.specs.Indexed.{IsAccepted};
 ghost use Rattle.editions.specs.Move.{moved_record, moved_key};
 
-use records::{Call, Record, ScaledCall, Taken, Written};
+use records::{Call, Record, ScaledCall};
 
 // Copies the moved records of a key to the start of the buffer. Inner: the key is accepted, so that each record can be taken, and the copy
 // fits.
@@ -18,30 +18,14 @@ pub(crate) fn records(key: &[u8], buffer: &mut [u8])
     let mut at = 0;
     let mut to = 0;
     while at < len {
-        let taken = records::take(key, at);
-        let Taken::Record(item, next) = taken else {
-            return;
-        };
-        to = put(record(item), buffer, to);
+        let (item, next) = records::take(key, at).unwrap();
+        to = records::put(moved(item), buffer, to).unwrap();
         at = next;
     }
 }
 
-// Puts a record at an offset of the buffer and answers the offset behind it. Inner: it fits there, so that it is not refused.
-fn put(item: Record, buffer: &mut [u8], to: usize) -> usize
-    requires { to + length (encoded item) ≤ length buffer.old }
-    ensures next { result ≡ to + length (encoded item) }
-    ensures buffer { buffer.new ≡ overwritten (encoded item) buffer.old to }
-{
-    let written = records::put(item, buffer, to);
-    match written {
-        Written::Next(next) => next,
-        Written::Refused(_) => to,
-    }
-}
-
 // The record in the other edition.
-fn record(item: Record) -> Record
+fn moved(item: Record) -> Record
     ensures { result ≡ moved_record item }
 {
     match item {

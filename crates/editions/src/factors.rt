@@ -3,7 +3,7 @@ ghost use Rattle.std.specs.Prelude.{◌≡◌, length, get_or};
 ghost use Rattle.key.specs.Indexed.{IsAccepted};
 ghost use Rattle.editions.specs.Move.{has_other_factor, other_factors};
 
-use records::{Record, Taken};
+use records::Record;
 
 // The offset of the first call whose factor isn't 1; the key's length where there is none. Inner: the key is accepted, so that each record
 // can be taken.
@@ -17,10 +17,7 @@ pub(crate) fn first_other(key: &[u8]) -> usize
     }
     let mut at = 0;
     while at < len {
-        let taken = records::take(key, at);
-        let Taken::Record(item, next) = taken else {
-            return len;
-        };
+        let (item, next) = records::take(key, at).unwrap();
         if has_other(item) {
             return at;
         }

@@ -1,4 +1,4 @@
--- Sums that are not reduced: how large they grow, and what three products and factors added to them leave of them modulo p.
+-- Sums that are not reduced: how large they grow, entry by entry.
 pub mod UnreducedSums
 -- A side's coordinates as they are filled with bits, one a turn.
 pub mod CoordinatesFromBits

@@ -1,31 +1,33 @@
 -- What the contracts of inner functions cite. No public promise rests on it.
-use Rattle.std.specs.Prelude.{◌+◌, ◌%◌, ◌≤◌, ◌<◌, ◌≡◌}
-use Rattle.field.specs.Fp.{p}
-use Rattle.field.specs.Scalars.{prime}
+use Rattle.std.specs.Prelude.{ℕ, ◌+◌, ◌≤◌, ◌<◌, ◌≡◌}
+use Rattle.scalar.specs.Elements.{Elements}
 use Rattle.evaluation.specs.Evaluate.{Counted}
-use Rattle.evaluate.specs.Answer.{values_in}
-use Rattle.evaluate.specs.declared.array.Counted.{Counted as OfArray}
+use Rattle.evaluation.specs.Inner.{no_entries}
 use Rattle.evaluate.specs.declared.entry.Sums.{Sums}
 
--- the values and the factors of an array
-abbrev pub counted_in : OfArray → Counted prime
-counted_in counted = record { values = values_in counted.values; factors = counted.factors }
+-- the three elements that sums are, which are not reduced yet, and their factors
+abbrev pub reduced_in : {E T : Type 0} (𝓔 : Elements E) → (T → 𝓔.scalars.arithmetic.Carrier) → Sums T → Counted 𝓔.scalars
+reduced_in 𝓔 sum sums = record { values = record { a = sum sums.a; b = sum sums.b; c = sum sums.c }; factors = sums.factors }
 
--- the three remainders of sums that are not reduced yet, and their factors
-abbrev pub reduced_in : Sums → Counted prime
-reduced_in sums = record { values = record { a = sums.a % p; b = sums.b % p; c = sums.c % p }; factors = sums.factors }
+-- sums of nothing
+pub record Begun {E T : Type 0} (𝓔 : Elements E) (sum : T → 𝓔.scalars.arithmetic.Carrier) (size : T → ℕ) (sums : Sums T) : Type 0 where
+  pub is : reduced_in 𝓔 sum sums ≡ no_entries 𝓔.scalars
+  pub a_none : size sums.a ≡ 0
+  pub b_none : size sums.b ≡ 0
+  pub c_none : size sums.c ≡ 0
 
 -- sums to which more can be added: each is below 2^63
-pub record Light (sums : Sums) : Type 0 where
-  pub a_light : sums.a < 9223372036854775808
-  pub b_light : sums.b < 9223372036854775808
-  pub c_light : sums.c < 9223372036854775808
+pub record Light {T : Type 0} (size : T → ℕ) (sums : Sums T) : Type 0 where
+  pub a_light : size sums.a < 9223372036854775808
+  pub b_light : size sums.b < 9223372036854775808
+  pub c_light : size sums.c < 9223372036854775808
   pub factors_light : sums.factors < 9223372036854775808
 
--- sums that have become others with these remainders and factors: each of the three by less than 2^34, the factors by at most 60
-pub record Grown (sums : Sums) (counted : Counted prime) (more : Sums) : Type 0 where
-  pub is : reduced_in more ≡ counted
-  pub a_most : more.a < sums.a + 17179869184
-  pub b_most : more.b < sums.b + 17179869184
-  pub c_most : more.c < sums.c + 17179869184
+-- sums that have become others, which are these elements with these factors: each of the three by less than 2^35, the factors by at most 60
+pub record Grown {E T : Type 0} (𝓔 : Elements E) (sum : T → 𝓔.scalars.arithmetic.Carrier) (size : T → ℕ) (sums : Sums T)
+    (counted : Counted 𝓔.scalars) (more : Sums T) : Type 0 where
+  pub is : reduced_in 𝓔 sum more ≡ counted
+  pub a_most : size more.a < size sums.a + 34359738368
+  pub b_most : size more.b < size sums.b + 34359738368
+  pub c_most : size more.c < size sums.c + 34359738368
   pub factors_most : more.factors ≤ sums.factors + 60

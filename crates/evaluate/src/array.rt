@@ -1,196 +1,139 @@
 // One array of an accepted key: its values, from those of the arrays before it, and how many factors they take.
-ghost use Rattle.std.specs.Prelude.{◌≡◌, true, false, List, ℕ, ◌+◌, ◌-◌, ◌<◌, length};
-ghost use Rattle.field.specs.Scalars.{prime};
+ghost use Rattle.std.specs.Prelude.{◌≡◌, true, false, List, ℕ, ◌<◌, length};
 ghost use Rattle.arrays.specs.Arrays.{array_at};
-ghost use Rattle.weights.specs.Words.{singles};
 ghost use Rattle.key.specs.KeyArrays.{key_arrays, key_scaled};
-ghost use Rattle.key.specs.Indexed.{Indexed, Sparse, Recursive};
+ghost use Rattle.key.specs.Indexed.{Sparse, Recursive};
 ghost use Rattle.evaluation.specs.Inner.{Sides, ReachedIn, Filled, next_by};
-ghost use Rattle.evaluate.specs.Inner.{counted_in, reduced_in};
+ghost use Rattle.evaluate.specs.Answer.{counted_of};
+ghost use Rattle.evaluate.specs.Inner.{reduced_in};
 
 use crate::entry::Sums;
-use crate::{Values, entry};
-use field::Fp;
-use records::{Shape, read};
+use crate::pass::Tables;
+use crate::{Counted, Values, entry};
+use indexed::IndexedKey;
+use records::read;
+use scalar::Scalar;
 use weights::side;
 use weights::side::Reached;
 
-// The values of an array, and how many factors its entries took (02, E4).
-#[derive(Clone, Copy)]
-pub(crate) struct Counted {
-    pub values: Values,
-    pub factors: usize,
-}
-
-// The values and the factors of array i, in a key that has so many arrays: the sums of what its entries add. The two sides of the point
-// have as many coordinates as `most` has bits. Inner: the key is accepted and indexed, the tables are ones for it, and the values of the
-// arrays before stand on the sheet.
-pub(crate) fn values(
-    key: &[u8],
-    starts: &[u16],
-    arrays: usize,
+// The values and the factors of array i: the sums of what its entries add. Inner: there is such an array, the tables are ones for the key,
+// and the values of the arrays before stand on the sheet.
+pub(crate) fn values<S: Scalar>(
+    key: &IndexedKey<'_>,
     i: usize,
-    most: Shape,
-    rowwise: &[u32],
-    columnwise: &[u32],
+    tables: &Tables<'_, S>,
     sheet: &[u32],
-) -> Counted
-    requires indexed { Indexed key.now starts.now }
-    requires arrays_value { arrays ≡ length (key_arrays key.now) }
-    requires i_lt_arrays { i < arrays }
-    requires sides { Sides singles key.now most rowwise.now columnwise.now }
-    requires filled { Filled prime i sheet.now }
-    ensures { counted_in result ≡
-        next_by singles key.now rowwise.now columnwise.now sheet.now i }
+) -> Counted<S>
+    requires i_in_bounds { i < length (key_arrays key.now.bytes.now) }
+    requires sides { Sides S.elements key.now.bytes.now tables.now.most tables.now.rowwise.now tables.now.columnwise.now }
+    requires filled { Filled S.elements.scalars i sheet.now }
+    ensures { counted_of S.elements result ≡
+        next_by S.elements key.now.bytes.now tables.now.rowwise.now tables.now.columnwise.now sheet.now i }
 {
-    let own = indexed::shape(key, starts, i);
+    let own = key.shape(i);
     let reached = Reached {
-        rows: side::reach(own.rows, most.rows, rowwise),
-        columns: side::reach(own.columns, most.columns, columnwise),
+        rows: side::reach(own.rows, tables.most.rows, tables.rowwise),
+        columns: side::reach(own.columns, tables.most.columns, tables.columnwise),
     };
-    let sums = total(key, starts, arrays, i, reached, rowwise, columnwise, sheet);
+    let sums = total(key, i, reached, tables, sheet);
     Counted {
         values: Values {
-            a: Fp::remainder(sums.a),
-            b: Fp::remainder(sums.b),
-            c: Fp::remainder(sums.c),
+            a: S::total(sums.a),
+            b: S::total(sums.b),
+            c: S::total(sums.c),
         },
         factors: sums.factors,
     }
 }
 
 // The same, not reduced yet. Inner: as for `values`, and these are the array's bits, over which weights may be taken so far.
-fn total(
-    key: &[u8],
-    starts: &[u16],
-    arrays: usize,
+fn total<S: Scalar>(
+    key: &IndexedKey<'_>,
     i: usize,
     reached: Reached,
-    rowwise: &[u32],
-    columnwise: &[u32],
+    tables: &Tables<'_, S>,
     sheet: &[u32],
-) -> Sums
-    requires indexed { Indexed key.now starts.now }
-    requires arrays_value { arrays ≡ length (key_arrays key.now) }
-    requires i_lt_arrays { i < arrays }
-    requires reached_in { ReachedIn singles (key_arrays key.now) i reached rowwise.now columnwise.now }
-    requires filled { Filled prime i sheet.now }
-    ensures { reduced_in result ≡
-        next_by singles key.now rowwise.now columnwise.now sheet.now i }
+) -> Sums<S::Sum>
+    requires i_in_bounds { i < length (key_arrays key.now.bytes.now) }
+    requires reached_in { ReachedIn S.elements (key_arrays key.now.bytes.now) i reached tables.now.rowwise.now tables.now.columnwise.now }
+    requires filled { Filled S.elements.scalars i sheet.now }
+    ensures { reduced_in S.elements S.sum result ≡
+        next_by S.elements key.now.bytes.now tables.now.rowwise.now tables.now.columnwise.now sheet.now i }
 {
-    let opening = starts[i] as usize;
-    if key[opening] == 2 {
-        cells(key, starts, arrays, i, reached, rowwise, columnwise)
-    } else if indexed::scaled(key) {
-        scaled_calls(key, starts, arrays, i, reached, rowwise, columnwise, sheet)
+    if key.sparse(i) {
+        cells(key, i, reached, tables)
+    } else if key.scaled() {
+        scaled_calls(key, i, reached, tables, sheet)
     } else {
-        calls(key, starts, arrays, i, reached, rowwise, columnwise, sheet)
+        calls(key, i, reached, tables, sheet)
     }
 }
 
 // The same of a sparse array, whatever stands on a sheet: its cells, added up one by one. Inner: as for `total`.
-fn cells(
-    key: &[u8],
-    starts: &[u16],
-    arrays: usize,
+fn cells<S: Scalar>(
+    key: &IndexedKey<'_>,
     i: usize,
     reached: Reached,
-    rowwise: &[u32],
-    columnwise: &[u32],
-) -> Sums
-    requires indexed { Indexed key.now starts.now }
-    requires arrays_value { arrays ≡ length (key_arrays key.now) }
-    requires i_lt_arrays { i < arrays }
-    requires sparse { Sparse (array_at (key_arrays key.now) i).entries }
-    requires reached_in { ReachedIn singles (key_arrays key.now) i reached rowwise.now columnwise.now }
-    ensures { (sheet : List ℕ) → reduced_in result ≡ next_by singles key.now rowwise.now columnwise.now sheet i }
+    tables: &Tables<'_, S>,
+) -> Sums<S::Sum>
+    requires i_in_bounds { i < length (key_arrays key.now.bytes.now) }
+    requires sparse { Sparse (array_at (key_arrays key.now.bytes.now) i).entries }
+    requires reached_in { ReachedIn S.elements (key_arrays key.now.bytes.now) i reached tables.now.rowwise.now tables.now.columnwise.now }
+    ensures { (sheet : List ℕ) → reduced_in S.elements S.sum result ≡
+        next_by S.elements key.now.bytes.now tables.now.rowwise.now tables.now.columnwise.now sheet i }
 {
-    let to = indexed::behind(key, starts, arrays, i);
-    let mut sums = Sums {
-        a: 0,
-        b: 0,
-        c: 0,
-        factors: 0,
-    };
-    let mut at = starts[i] as usize + 3;
-    while at < to {
-        let c = read::cell(key, at + 1);
-        sums = entry::cell(sums, c, reached, rowwise, columnwise);
-        at = at + 21;
+    let mut sums = entry::nothing::<S>();
+    for bytes in key.entries(i).chunks_exact(21) {
+        let c = read::cell(bytes, 1);
+        sums = entry::cell(sums, c, reached, tables);
     }
     sums
 }
 
 // The same of a recursive array in a key of edition 1: its calls, added up one by one. Inner: as for `total`.
-fn calls(
-    key: &[u8],
-    starts: &[u16],
-    arrays: usize,
+fn calls<S: Scalar>(
+    key: &IndexedKey<'_>,
     i: usize,
     reached: Reached,
-    rowwise: &[u32],
-    columnwise: &[u32],
+    tables: &Tables<'_, S>,
     sheet: &[u32],
-) -> Sums
-    requires indexed { Indexed key.now starts.now }
-    requires arrays_value { arrays ≡ length (key_arrays key.now) }
-    requires i_lt_arrays { i < arrays }
-    requires key_value { key_scaled key.now ≡ false }
-    requires recursive { Recursive (array_at (key_arrays key.now) i).entries }
-    requires reached_in { ReachedIn singles (key_arrays key.now) i reached rowwise.now columnwise.now }
-    requires filled { Filled prime i sheet.now }
-    ensures { reduced_in result ≡
-        next_by singles key.now rowwise.now columnwise.now sheet.now i }
+) -> Sums<S::Sum>
+    requires i_in_bounds { i < length (key_arrays key.now.bytes.now) }
+    requires edition { key_scaled key.now.bytes.now ≡ false }
+    requires recursive { Recursive (array_at (key_arrays key.now.bytes.now) i).entries }
+    requires reached_in { ReachedIn S.elements (key_arrays key.now.bytes.now) i reached tables.now.rowwise.now tables.now.columnwise.now }
+    requires filled { Filled S.elements.scalars i sheet.now }
+    ensures { reduced_in S.elements S.sum result ≡
+        next_by S.elements key.now.bytes.now tables.now.rowwise.now tables.now.columnwise.now sheet.now i }
 {
-    let to = indexed::behind(key, starts, arrays, i);
-    let mut sums = Sums {
-        a: 0,
-        b: 0,
-        c: 0,
-        factors: 0,
-    };
-    let mut at = starts[i] as usize + 3;
-    while at < to {
-        let c = read::call(key, at + 1);
-        sums = entry::call(sums, c, key, starts, reached, rowwise, columnwise, sheet);
-        at = at + 11;
+    let mut sums = entry::nothing::<S>();
+    for bytes in key.entries(i).chunks_exact(11) {
+        let c = read::call(bytes, 1);
+        sums = entry::call(sums, c, key, reached, tables, sheet);
     }
     sums
 }
 
 // The same in a key of edition 2. Inner: as for `total`.
-fn scaled_calls(
-    key: &[u8],
-    starts: &[u16],
-    arrays: usize,
+fn scaled_calls<S: Scalar>(
+    key: &IndexedKey<'_>,
     i: usize,
     reached: Reached,
-    rowwise: &[u32],
-    columnwise: &[u32],
+    tables: &Tables<'_, S>,
     sheet: &[u32],
-) -> Sums
-    requires indexed { Indexed key.now starts.now }
-    requires arrays_value { arrays ≡ length (key_arrays key.now) }
-    requires i_lt_arrays { i < arrays }
-    requires key_value { key_scaled key.now ≡ true }
-    requires recursive { Recursive (array_at (key_arrays key.now) i).entries }
-    requires reached_in { ReachedIn singles (key_arrays key.now) i reached rowwise.now columnwise.now }
-    requires filled { Filled prime i sheet.now }
-    ensures { reduced_in result ≡
-        next_by singles key.now rowwise.now columnwise.now sheet.now i }
+) -> Sums<S::Sum>
+    requires i_in_bounds { i < length (key_arrays key.now.bytes.now) }
+    requires edition { key_scaled key.now.bytes.now ≡ true }
+    requires recursive { Recursive (array_at (key_arrays key.now.bytes.now) i).entries }
+    requires reached_in { ReachedIn S.elements (key_arrays key.now.bytes.now) i reached tables.now.rowwise.now tables.now.columnwise.now }
+    requires filled { Filled S.elements.scalars i sheet.now }
+    ensures { reduced_in S.elements S.sum result ≡
+        next_by S.elements key.now.bytes.now tables.now.rowwise.now tables.now.columnwise.now sheet.now i }
 {
-    let to = indexed::behind(key, starts, arrays, i);
-    let mut sums = Sums {
-        a: 0,
-        b: 0,
-        c: 0,
-        factors: 0,
-    };
-    let mut at = starts[i] as usize + 3;
-    while at < to {
-        let c = read::scaled_call(key, at + 1);
-        sums = entry::scaled_call(sums, c, key, starts, reached, rowwise, columnwise, sheet);
-        at = at + 15;
+    let mut sums = entry::nothing::<S>();
+    for bytes in key.entries(i).chunks_exact(15) {
+        let c = read::scaled_call(bytes, 1);
+        sums = entry::scaled_call(sums, c, key, reached, tables, sheet);
     }
     sums
 }

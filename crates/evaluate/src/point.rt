@@ -20,7 +20,7 @@ pub(crate) fn bits(a: u32, coordinates: &mut [u32])
 
 // The lowest bit of a number as an element of the field.
 fn lowest_bit(a: u32) -> Fp
-    ensures { result.0 ≡ cond (eqb (a % 2) 1) fp.unit fp.nought }
+    ensures { result.number ≡ cond (eqb (a % 2) 1) fp.unit fp.nought }
 {
     if a % 2 == 1 { Fp::one() } else { Fp::zero() }
 }

@@ -1,28 +1,21 @@
 -- An answer is determined by what it says.
-use mathlib.Core.Path.{◌≡◌, sym, ap, ap₂}
-use Rattle.refusal.proofs.Outcomes.{given-injective, refusal-injective, given-not-refused}
-use Rattle.quadratic.specs.Quadratic.{quadratic}
-use Rattle.evaluation.specs.Evaluate.{ValuesOf, Counted}
-use Rattle.evaluate_quadratic.specs.Answer.{values_in, evaluated_outcome}
-use Rattle.evaluate_quadratic.specs.declared.Evaluated.{Evaluated}
-use Rattle.evaluate_quadratic.specs.declared.Values.{Values as Answered}
+use Rattle.std.specs.Prelude.{Result}
+use mathlib.Core.Path.{◌≡◌, ap}
+use Rattle.refusal.specs.declared.Refusal.{Refusal}
+use Rattle.field.proofs.EqualElements.{fp-equal}
+use Rattle.quadratic.specs.Fp2.{TwoParts}
+use Rattle.quadratic.specs.Parts.{parts}
+use Rattle.quadratic.specs.declared.Fp2.{Fp2}
+use Rattle.scalar.specs.Elements.{doubles}
+use Rattle.evaluate.specs.declared.Counted.{Counted as OfCall}
+use Rattle.evaluate.proofs.Answers.{answer-injective}
+use Rattle.evaluate_quadratic.specs.Answer.{evaluated_outcome}
 
-values-injective : (v w : Answered) → values_in v ≡ values_in w → v ≡ w
-values-injective v w e =
-    let a = ap (λ (x : ValuesOf quadratic). x.a) e in
-    let b = ap (λ (x : ValuesOf quadratic). x.b) e in
-    let c = ap (λ (x : ValuesOf quadratic). x.c) e in
-    λ i.
-    record {
-      a = record { u = record { 0 = (a i).u }; v = record { 0 = (a i).v } };
-      b = record { u = record { 0 = (b i).u }; v = record { 0 = (b i).v } };
-      c = record { u = record { 0 = (c i).u }; v = record { 0 = (c i).v } };
-    }
+parts-injective : (x y : Fp2) → parts x ≡ parts y → x ≡ y
+parts-injective x y e =
+    let u = fp-equal {x = x.u} {y = y.u} (ap (λ (r : TwoParts). r.u) e) in
+    let v = fp-equal {x = x.v} {y = y.v} (ap (λ (r : TwoParts). r.v) e) in
+    λ i. record { u = u i; v = v i }
 
-pub evaluated-injective : (r s : Evaluated) → evaluated_outcome r ≡ evaluated_outcome s → r ≡ s
-evaluated-injective (Evaluated.Values v m) (Evaluated.Values w n) e =
-    let same = given-injective e in
-    ap₂ Evaluated.Values (values-injective v w (ap (λ (x : Counted quadratic). x.values) same)) (ap (λ (x : Counted quadratic). x.factors) same)
-evaluated-injective (Evaluated.Values v m) (Evaluated.Refused g) e = absurd (given-not-refused e)
-evaluated-injective (Evaluated.Refused f) (Evaluated.Values w n) e = absurd (given-not-refused (sym e))
-evaluated-injective (Evaluated.Refused f) (Evaluated.Refused g) e = ap Evaluated.Refused (refusal-injective f g e)
+pub evaluated-injective : (r s : Result (OfCall Fp2) Refusal) → evaluated_outcome r ≡ evaluated_outcome s → r ≡ s
+evaluated-injective = answer-injective doubles parts-injective

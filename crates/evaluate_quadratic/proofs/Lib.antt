@@ -1,7 +1,3 @@
--- Sums of elements that are not reduced: how large they grow, and what three products and factors added to them leave of them modulo p.
-pub mod UnreducedSums
--- Three elements stored one behind the other, two numbers each.
-pub mod StoredElements
 -- At a point with every v zero evaluate answers what it answers over the field of p, as u, with v zero (02, E2), and as many factors.
 pub mod EveryVZero
 -- An answer is determined by what it says.

@@ -1,16 +1,19 @@
 -- What evaluate answers over the field of p² (02, E2).
-use Rattle.refusal.specs.Outcome.{Outcome, given, refusal_of}
-use Rattle.quadratic.specs.Parts.{parts}
+use Rattle.std.specs.Prelude.{Result}
+use Rattle.refusal.specs.Outcome.{Outcome}
+use Rattle.refusal.specs.declared.Refusal.{Refusal}
 use Rattle.quadratic.specs.Quadratic.{quadratic}
+use Rattle.quadratic.specs.declared.Fp2.{Fp2}
+use Rattle.scalar.specs.Elements.{doubles}
 use Rattle.evaluation.specs.Evaluate.{ValuesOf, Counted}
-use Rattle.evaluate_quadratic.specs.declared.Evaluated.{Evaluated}
-use Rattle.evaluate_quadratic.specs.declared.Values.{Values as Answered}
+use Rattle.evaluate.specs.Answer.{values_of, answer_outcome}
+use Rattle.evaluate.specs.declared.Counted.{Counted as OfCall}
+use Rattle.evaluate.specs.declared.Values.{Values as Answered}
 
--- the values that are answered
-abbrev pub values_in : Answered → ValuesOf quadratic
-values_in values = record { a = parts values.a; b = parts values.b; c = parts values.c }
+-- the elements that are answered
+abbrev pub values_in : Answered Fp2 → ValuesOf quadratic
+values_in = values_of doubles
 
--- what each case of the answer says
-abbrev pub evaluated_outcome : Evaluated → Outcome (Counted quadratic)
-evaluated_outcome (Evaluated.Values values factors) = given (record { values = values_in values; factors = factors })
-evaluated_outcome (Evaluated.Refused f) = refusal_of f
+-- what is answered: the elements and the factors
+abbrev pub evaluated_outcome : Result (OfCall Fp2) Refusal → Outcome (Counted quadratic)
+evaluated_outcome = answer_outcome doubles

@@ -5,22 +5,19 @@ use mathlib.Core.Path.{◌≡◌, refl, sym, ap, ◌∙◌}
 use native.Mathlib.Omega.{arith}
 use lib.ListN.{length, get_or, length-take}
 use lib.Seq.{get_or-take}
-use Rattle.refusal.specs.Outcome.{Outcome, given, refused, refusal_of, and_then}
+use Rattle.refusal.specs.Outcome.{Outcome, given, refused, refusal_of}
 use Rattle.refusal.specs.declared.Refusal.{Refusal}
 use Rattle.refusal.proofs.Outcomes.{given-not-refused}
 use Rattle.field.specs.Scalars.{Scalars}
-use Rattle.key.specs.Check.{checked_outcome, checked_key}
+use Rattle.key.specs.Check.{checked_key}
 use Rattle.key.specs.Index.{starts_of, Indexing}
 use Rattle.key.specs.Indexed.{Indexed}
 use Rattle.key.specs.KeyArrays.{key_arrays}
-use Rattle.key.specs.declared.Checked.{Checked}
 use Rattle.key.specs.declared.Counts.{Counts}
 use Rattle.key.proofs.Acceptance.{acceptance}
-use Rattle.judge.specs.Judged.{sheet_judged}
-use Rattle.judge.proofs.JudgementsInOrder.{Admitted}
 use Rattle.judge.proofs.KeysTogether.{few-records}
-use Rattle.evaluation.specs.Evaluate.{ValuesOf, Counted, Evaluation, concluded}
-use Rattle.evaluation.specs.Sheet.{words_of, places_of, laid}
+use Rattle.evaluation.specs.Evaluate.{ValuesOf, Counted, concluded}
+use Rattle.evaluation.specs.Sheet.{words_of, laid}
 
 -- an accepted key's counts are those of its arrays
 module _ (key : List ℕ) (counts : Counts) (accepted : checked_key key ≡ given counts) where
@@ -69,23 +66,17 @@ module _ (𝓢 : Scalars) (o : Outcome Counts) (last : Counts → Counted 𝓢) 
     ap (λ (o : Outcome Counts). (concluded 𝓢 o last each sheet).sheet) e,
   )
 
-module _ (𝓢 : Scalars) (first : Outcome Counts) (judge : Counts → Outcome Counts) (Holds : Counts → Type 0) (sheet : List ℕ)
-    (admitted : Checked) (call : Admitted first judge Holds (places_of 𝓢) (length sheet) admitted) (last : Counts → Counted 𝓢)
-    (each : Counts → ℕ → ValuesOf 𝓢) where
-  abbrev promise : Evaluation 𝓢
-  promise = concluded 𝓢 (and_then (and_then first judge) (sheet_judged (places_of 𝓢) (length sheet))) last each sheet
-
   -- what is promised of an answer and of the sheet afterwards
   abbrev pub Promise : Outcome (Counted 𝓢) → List ℕ → Type 0
-  Promise answer after = (answer ≡ promise.answer) × (after ≡ promise.sheet)
+  Promise answer after = (answer ≡ (concluded 𝓢 o last each sheet).answer) × (after ≡ (concluded 𝓢 o last each sheet).sheet)
 
-  pub refused-promise : (f : Refusal) → admitted ≡ Checked.Refused f → Promise (refusal_of f) sheet
-  refused-promise f e = concluded-refused 𝓢 _ last each sheet _ _ (sym (ap checked_outcome e) ∙ call.admits)
+  pub refused-promise : (f : Refusal) → o ≡ refusal_of f → Promise (refusal_of f) sheet
+  refused-promise f e = concluded-refused _ _ (sym e)
 
-  pub given-promise : (counts : Counts) → admitted ≡ Checked.Accepted counts → (values : ValuesOf 𝓢) (factors : ℕ) (after : List ℕ) →
+  pub given-promise : (counts : Counts) → o ≡ given counts → (values : ValuesOf 𝓢) (factors : ℕ) (after : List ℕ) →
       values ≡ (last counts).values → factors ≡ (last counts).factors →
       after ≡ laid 0 (λ i. words_of 𝓢 (each counts i)) counts.arrays sheet →
       Promise (given (record { values = values; factors = factors })) after
   given-promise counts e values factors after v n w =
-      let done = concluded-given 𝓢 _ last each sheet counts (sym (ap checked_outcome e) ∙ call.admits) in
+      let done = concluded-given counts (sym e) in
       ((λ t. given (record { values = v t; factors = n t })) ∙ done.0, w ∙ done.1)

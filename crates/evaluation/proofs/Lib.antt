@@ -10,6 +10,8 @@ pub mod SumOfEntries
 pub mod NextEntryAdded
 -- Where no entry is left, the sum is the array's values and its factors.
 pub mod SumIsArrayValues
+-- The bytes of an array's entries, read one entry at a time, and where no whole entry is left the sum is the array's values.
+pub mod EntriesInBytes
 -- The sheet as the pass fills it: behind i arrays it holds their values, and the next array's values are worked out from them.
 pub mod SheetDuringPass
 -- The factors of the arrays before one, added up array by array, and that they are the key's behind all arrays.

@@ -1,5 +1,6 @@
 -- The cell or the call that is read at an offset is the array's next entry, and is added to the sum.
-use Prim.Native.Nat.{ℕ, ◌+◌, ◌≤◌, ◌<◌}
+use Rattle.std.specs.Prelude.{Ok}
+use Prim.Native.Nat.{ℕ, ◌+◌, ◌<◌}
 use mathlib.Core.Bool.{Bool, true, false}
 use mathlib.Core.List.{List, [], ◌∷◌}
 use mathlib.Core.Path.{◌≡◌, sym, ap, ap₂, subst, ◌∙◌}
@@ -14,7 +15,6 @@ use Rattle.records.specs.Take.{taken_outcome, taken_at}
 use Rattle.records.specs.declared.Call.{Call as CallRecord}
 use Rattle.records.specs.declared.Cell.{Cell as CellRecord}
 use Rattle.records.specs.declared.ScaledCall.{ScaledCall}
-use Rattle.records.specs.declared.Taken.{Taken}
 use Rattle.records.proofs.PresentIsTaken.{taken-present}
 use Rattle.arrays.specs.Arrays.{Call, Array, array_at}
 use Rattle.arrays.specs.Placing.{blocks}
@@ -22,7 +22,6 @@ use Rattle.arrays.specs.Side.{Side}
 use Rattle.arrays.specs.WellFormed.{CellFits, CallFits}
 use Rattle.key.specs.Encoding.{cell_record, call_record, FactorIn}
 use Rattle.key.specs.KeyArrays.{cell_in, call_in, scaled_call_in, key_arrays, key_scaled}
-use Rattle.key.proofs.Encodings.{call_length}
 use Rattle.evaluation.specs.Evaluate.{Counted}
 use Rattle.evaluation.specs.Inner.{Filled, Called, cell_added, call_added}
 use Rattle.evaluation.specs.Sheet.{places_of}
@@ -30,7 +29,7 @@ use Rattle.evaluation.proofs.SumOfEntries.{CellsLeft, CallsLeft, CellNext, CallN
 
 -- the call that is read where a call of an edition stands is that call
 plain-call : (key : List ℕ) (at : ℕ) (call : Call) (next : ℕ) →
-    taken_at key at ≡ taken_outcome (Taken.Record (call_record false call) next) → call.factor ≡ 1 →
+    taken_at key at ≡ taken_outcome (Ok ((call_record false call), next)) → call.factor ≡ 1 →
     (c : CallRecord) → call_fields c ≡ fields_in (2 ∷ 4 ∷ 4 ∷ []) (drop (at + 1) key) → call ≡ call_in c
 plain-call key at call next taken one c read =
     let fields = (taken-present key at (call_record false call) next taken).0.fields ∙ sym read in
@@ -40,7 +39,7 @@ plain-call key at call next taken one c read =
     λ t. record { id = id t; down = down t; right = right t; factor = one t }
 
 scaled-call : (key : List ℕ) (at : ℕ) (call : Call) (next : ℕ) →
-    taken_at key at ≡ taken_outcome (Taken.Record (call_record true call) next) →
+    taken_at key at ≡ taken_outcome (Ok ((call_record true call), next)) →
     (c : ScaledCall) → scaled_call_fields c ≡ fields_in (2 ∷ 4 ∷ 4 ∷ 4 ∷ []) (drop (at + 1) key) → call ≡ scaled_call_in c
 scaled-call key at call next taken c read =
     let fields = (taken-present key at (call_record true call) next taken).0.fields ∙ sym read in
@@ -61,9 +60,6 @@ module _ (𝓢 : Scalars) (key : List ℕ) (S S' : Side 𝓢.arithmetic) (sheet 
   module _ (here : CellsLeft 𝓢 key S S' sheet i to sum at) where
     cell : CellNext 𝓢 key S S' sheet i to sum at
     cell = cell-next 𝓢 key S S' sheet i to sum at l here
-
-    pub cell_room : at + 21 ≤ length key
-    cell_room = (taken-present key at (cell_record cell.c) (at + 21) cell.taken).0.room
 
     module _ (c : CellRecord) (read : cell_fields c ≡ fields_in (4 ∷ 4 ∷ 4 ∷ 4 ∷ 4 ∷ []) (drop (at + 1) key)) where
       -- the cell that is read is the next one
@@ -95,17 +91,8 @@ module _ (𝓢 : Scalars) (key : List ℕ) (S S' : Side 𝓢.arithmetic) (sheet 
 
     -- in an edition
     module _ (scaled : Bool) (edition : key_scaled key ≡ scaled) where
-      pub call-room : at + call_size scaled ≤ length key
-      call-room =
-          omega (
-            arith,
-            (taken-present key at (call_record (key_scaled key) call.c) _ call.taken).0.room,
-            call_length (key_scaled key) call.c,
-            ap call_size edition,
-          )
-
-      stands : taken_at key at ≡ taken_outcome (Taken.Record (call_record scaled call.c) (at + call_size scaled))
-      stands = subst (λ (s : Bool). taken_at key at ≡ taken_outcome (Taken.Record (call_record s call.c) (at + call_size s))) edition call.taken
+      stands : taken_at key at ≡ taken_outcome (Ok ((call_record scaled call.c), (at + call_size scaled)))
+      stands = subst (λ (s : Bool). taken_at key at ≡ taken_outcome (Ok ((call_record s call.c), (at + call_size s)))) edition call.taken
 
       writes : FactorIn scaled call.c.factor
       writes = subst (λ (s : Bool). FactorIn s call.c.factor) edition call.written

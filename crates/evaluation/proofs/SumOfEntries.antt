@@ -1,4 +1,5 @@
 -- An array's entries added up one by one: what is left of them, and what their sum becomes.
+use Rattle.std.specs.Prelude.{Ok}
 use Prim.Native.Nat.{ℕ, ◌+◌, ◌<◌}
 use mathlib.Core.List.{List, [], ◌∷◌, foldl}
 use mathlib.Core.Path.{◌≡◌, refl, sym, ap, ◌∙◌}
@@ -6,7 +7,6 @@ use native.Mathlib.Omega.{arith}
 use Rattle.field.specs.Scalars.{Scalars}
 use Rattle.records.specs.Inner.{call_size}
 use Rattle.records.specs.Take.{taken_outcome, taken_at}
-use Rattle.records.specs.declared.Taken.{Taken}
 use Rattle.arrays.specs.Arrays.{Part, A, B, C, value_of, Cell, Call, Entries, cells, calls, Array, array_at}
 use Rattle.arrays.specs.Factors.{call_factors, entries_factors, sum_of}
 use Rattle.arrays.specs.Pass.{entries_terms}
@@ -20,7 +20,7 @@ use Rattle.key.specs.KeyArrays.{key_arrays, key_scaled}
 use Rattle.key.proofs.EntriesLeft.{Left, cell-first, call-first}
 use Rattle.evaluation.specs.Embedded.{same_values_in}
 use Rattle.evaluation.specs.Evaluate.{ValuesOf, Counted}
-use Rattle.evaluation.specs.Inner.{sheet_values, added_to, cell_added, call_added, next_counted}
+use Rattle.evaluation.specs.Inner.{sheet_values, no_entries, added_to, cell_added, call_added, next_counted}
 
 module _ (𝓢 : Scalars) (key : List ℕ) (S S' : Side 𝓢.arithmetic) (sheet : List ℕ) (i to : ℕ) where
   abbrev Element : Type 0
@@ -72,14 +72,7 @@ module _ (𝓢 : Scalars) (key : List ℕ) (S S' : Side 𝓢.arithmetic) (sheet 
 
   -- before the first entry
   module _ (at : ℕ) (left : Left key i to own.entries at) where
-    abbrev zeros : Counted 𝓢
-    zeros =
-        record {
-          values = record { a = 𝓢.arithmetic.nought; b = 𝓢.arithmetic.nought; c = 𝓢.arithmetic.nought };
-          factors = 0;
-        }
-
-    begun : Adding own.entries zeros at
+    begun : Adding own.entries (no_entries 𝓢) at
     begun =
         record {
           left = left;
@@ -90,23 +83,23 @@ module _ (𝓢 : Scalars) (key : List ℕ) (S S' : Side 𝓢.arithmetic) (sheet 
         }
       where
         nought : (part : Part) →
-            foldl add (value_of part zeros.values) (terms part own.entries)
+            foldl add (value_of part (no_entries 𝓢).values) (terms part own.entries)
             ≡ foldl add 𝓢.arithmetic.nought (terms part own.entries)
         nought A = refl
         nought B = refl
         nought C = refl
 
-    pub cells-begun : Sparse own.entries → CellsLeft zeros at
+    pub cells-begun : Sparse own.entries → CellsLeft (no_entries 𝓢) at
     cells-begun sparse = go own.entries sparse begun
       where
-        go : (entries : Entries) → Sparse entries → Adding entries zeros at → CellsLeft zeros at
+        go : (entries : Entries) → Sparse entries → Adding entries (no_entries 𝓢) at → CellsLeft (no_entries 𝓢) at
         go (cells list) sparse adding = record { todo = list; adding = adding }
         go (calls list) sparse adding = absurd sparse
 
-    pub calls-begun : Recursive own.entries → CallsLeft zeros at
+    pub calls-begun : Recursive own.entries → CallsLeft (no_entries 𝓢) at
     calls-begun recursive = go own.entries recursive begun
       where
-        go : (entries : Entries) → Recursive entries → Adding entries zeros at → CallsLeft zeros at
+        go : (entries : Entries) → Recursive entries → Adding entries (no_entries 𝓢) at → CallsLeft (no_entries 𝓢) at
         go (cells list) recursive adding = absurd recursive
         go (calls list) recursive adding = record { todo = list; adding = adding }
 
@@ -123,13 +116,13 @@ module _ (𝓢 : Scalars) (key : List ℕ) (S S' : Side 𝓢.arithmetic) (sheet 
   -- the next cell, and the next call
   pub record CellNext (sum : Counted 𝓢) (at : ℕ) : Type 0 where
     pub c : Cell
-    pub taken : taken_at key at ≡ taken_outcome (Taken.Record (cell_record c) (at + 21))
+    pub taken : taken_at key at ≡ taken_outcome (Ok ((cell_record c), (at + 21)))
     pub fits : CellFits own.row_bits own.column_bits c
     pub onward : CellsLeft (cell_added 𝓢 S S' own.row_bits own.column_bits sum c) (at + 21)
 
   pub record CallNext (sum : Counted 𝓢) (at : ℕ) : Type 0 where
     pub c : Call
-    pub taken : taken_at key at ≡ taken_outcome (Taken.Record (call_record (key_scaled key) c) (at + call_size (key_scaled key)))
+    pub taken : taken_at key at ≡ taken_outcome (Ok ((call_record (key_scaled key) c), (at + call_size (key_scaled key))))
     pub fits : CallFits blocks blocks (key_arrays key) i own.row_bits own.column_bits c
     pub written : FactorIn (key_scaled key) c.factor
     pub onward :

@@ -3,19 +3,11 @@ use Prim.Native.Nat.{ℕ, zero, suc, ◌+◌, ◌-◌, ◌*◌, ◌≤◌, ◌<�
 use mathlib.Core.List.{List, [], ◌∷◌, ◌++◌, append_assoc}
 use mathlib.Core.Logic.{◌⊎◌, inl, inr}
 use mathlib.Core.Path.{◌≡◌, refl, sym, ap, ap₂, ◌∙◌}
-use native.Mathlib.Nat.{mul-le-mul_left, mul-suc, eq-or-lt_of_le, le_of_suc-le-suc}
+use native.Mathlib.Nat.{mul_assoc, mul_left_comm, mul-add, mul-le-mul_left, mul-suc, eq-or-lt_of_le, le_of_suc-le-suc}
 use native.Mathlib.Omega.{arith}
 use lib.ListN.{length, get_or, drop, set, take, length-append, get_or-append}
 use lib.Seq.{sets, sets-eq, length-sets, length-take-le, get_or-append-add, drop-append-add, drop_at, get_or-drop, get_or-set_other}
 use Rattle.evaluation.specs.Sheet.{words_below, laid}
-
--- three stores one behind the other
-pub three-stores : (sheet : List ℕ) (at a b c : ℕ) →
-    set (set (set sheet at a) (at + 1) b) (at + 2) c ≡ sets sheet at (a ∷ b ∷ c ∷ [])
-three-stores sheet at a b c =
-    let one : at + 1 ≡ suc at = omega arith in
-    let two : at + 2 ≡ suc (suc at) = omega arith in
-    ap₂ (λ (i j : ℕ). set (set (set sheet at a) i b) j c) one two
 
 pub sets-append : (sheet : List ℕ) (at : ℕ) (xs ys : List ℕ) →
     sets sheet at (xs ++ ys) ≡ sets (sets sheet at xs) (at + length xs) ys
@@ -24,6 +16,16 @@ sets-append sheet at (x ∷ xs) ys =
     sets-append (set sheet at x) (suc at) xs ys
     ∙ ap (λ (i : ℕ). sets (sets (set sheet at x) (suc at) xs) i ys)
     (let e : suc at + length xs ≡ at + suc (length xs) = omega arith in e)
+
+-- three runs of w stores, one behind the other
+pub three-runs : (w i : ℕ) (sheet a b c : List ℕ) → length a ≡ w → length b ≡ w →
+    sets (sets (sets sheet (w * (3 * i)) a) (w * (3 * i + 1)) b) (w * (3 * i + 2)) c ≡ sets sheet (3 * w * i) (a ++ (b ++ c))
+three-runs w i sheet a b c long long' =
+    let begin : w * (3 * i) ≡ 3 * w * i = omega (arith, mul_assoc 3 w i, mul_left_comm w 3 i) in
+    let second : w * (3 * i + 1) ≡ 3 * w * i + length a = omega (arith, begin, mul-add w (3 * i) 1) in
+    let third : w * (3 * i + 2) ≡ 3 * w * i + length a + length b = omega (arith, begin, mul-add w (3 * i) 2) in
+    (λ t. sets (sets (sets sheet (begin t) a) (second t) b) (third t) c)
+    ∙ sym (sets-append sheet (3 * w * i) a (b ++ c) ∙ sets-append (sets sheet (3 * w * i) a) (3 * w * i + length a) b c)
 
 -- places before the first that is stored are as they were
 sets-before : (sheet : List ℕ) (at : ℕ) (xs : List ℕ) (i : ℕ) → i < at → get_or (sets sheet at xs) i 0 ≡ get_or sheet i 0

@@ -5,12 +5,12 @@ use Rattle.algebra.specs.Points.{Below}
 use Rattle.field.specs.Fp.{p}
 use Rattle.field.specs.Scalars.{Scalars, element_at}
 use Rattle.records.specs.declared.Shape.{Shape}
+use Rattle.scalar.specs.Elements.{Elements}
 use Rattle.arrays.specs.Arrays.{value_of, values_by, Cell, Call, Array, array_at}
 use Rattle.arrays.specs.Factors.{cell_factors, call_factors, array_factors}
 use Rattle.arrays.specs.Pass.{array_value, value_at, values_below}
 use Rattle.arrays.specs.Side.{Side}
 use Rattle.weights.specs.Side.{prepared, ForSide, Reaches}
-use Rattle.weights.specs.Words.{Words}
 use Rattle.weights.specs.declared.side.Reached.{Reached}
 use Rattle.key.specs.Check.{checked_key}
 use Rattle.key.specs.KeyArrays.{key_arrays}
@@ -26,20 +26,20 @@ pub record ValuesBelow (𝓢 : Scalars) (values : ValuesOf 𝓢) : Type 0 where
   pub c_below : Below p (𝓢.numbers values.c)
 
 -- the tables of the two sides of a point for such a key, which have as many coordinates as `most` has bits
-pub record Sides (𝓦 : Words) (key : List ℕ) (most : Shape) (rowwise columnwise : List ℕ) : Type 0 where
+pub record Sides {E : Type 0} (𝓔 : Elements E) (key : List ℕ) (most : Shape) (rowwise columnwise : List E) : Type 0 where
   pub counts : Counts
   pub accepted : checked_key key ≡ given counts
   pub rows_enough : counts.rows ≤ most.rows
   pub columns_enough : counts.columns ≤ most.columns
-  pub rows_ready : ForSide 𝓦 most.rows rowwise
-  pub columns_ready : ForSide 𝓦 most.columns columnwise
+  pub rows_ready : ForSide 𝓔 most.rows rowwise
+  pub columns_ready : ForSide 𝓔 most.columns columnwise
 
 -- the bits of array i, and how far weights over them may be taken by the tables of the two sides
-pub record ReachedIn (𝓦 : Words) (arrays : List Array) (i : ℕ) (reached : Reached) (rowwise columnwise : List ℕ) : Type 0 where
+pub record ReachedIn {E : Type 0} (𝓔 : Elements E) (arrays : List Array) (i : ℕ) (reached : Reached) (rowwise columnwise : List E) : Type 0 where
   pub row_bits : reached.rows.own ≡ (array_at arrays i).row_bits
   pub column_bits : reached.columns.own ≡ (array_at arrays i).column_bits
-  pub rows_reached : Reaches 𝓦 rowwise reached.rows.own reached.rows.to
-  pub columns_reached : Reaches 𝓦 columnwise reached.columns.own reached.columns.to
+  pub rows_reached : Reaches 𝓔 rowwise reached.rows.own reached.rows.to
+  pub columns_reached : Reaches 𝓔 columnwise reached.columns.own reached.columns.to
 
 -- the values of array i on a sheet
 abbrev pub sheet_values : (𝓢 : Scalars) → List ℕ → ℕ → ValuesOf 𝓢
@@ -50,6 +50,14 @@ sheet_values 𝓢 sheet i =
 pub record Filled (𝓢 : Scalars) (i : ℕ) (sheet : List ℕ) : Type 0 where
   pub room : places_of 𝓢 * i ≤ length sheet
   pub below : (j : ℕ) → j < i → ValuesBelow 𝓢 (sheet_values 𝓢 sheet j)
+
+-- the sum of no entries
+abbrev pub no_entries : (𝓢 : Scalars) → Counted 𝓢
+no_entries 𝓢 =
+    record {
+      values = record { a = 𝓢.arithmetic.nought; b = 𝓢.arithmetic.nought; c = 𝓢.arithmetic.nought };
+      factors = 0;
+    }
 
 -- a sum with values added to it that a weight weighs, a product of so many factors
 abbrev pub added_to : (𝓢 : Scalars) → Counted 𝓢 → ValuesOf 𝓢 → 𝓢.arithmetic.Carrier → ℕ → Counted 𝓢
@@ -106,24 +114,25 @@ passed_values 𝓢 arrays S S' i =
 -- ---- the same of a key, by the tables of the two sides of a point
 
 -- a sum with a cell added to it, of an array of so many bits
-abbrev pub cell_by : (𝓦 : Words) → List ℕ → List ℕ → ℕ → ℕ → Counted 𝓦.scalars → Cell → Counted 𝓦.scalars
-cell_by 𝓦 rowwise columnwise k k' sum c = cell_added 𝓦.scalars (prepared 𝓦 rowwise) (prepared 𝓦 columnwise) k k' sum c
+abbrev pub cell_by : {E : Type 0} (𝓔 : Elements E) → List E → List E → ℕ → ℕ → Counted 𝓔.scalars → Cell → Counted 𝓔.scalars
+cell_by 𝓔 rowwise columnwise k k' sum c = cell_added 𝓔.scalars (prepared 𝓔 rowwise) (prepared 𝓔 columnwise) k k' sum c
 
 -- a sum with a call added to it, from such an array
-abbrev pub call_by : (𝓦 : Words) → List ℕ → List ℕ → List ℕ → List ℕ → ℕ → ℕ → Counted 𝓦.scalars → Call → Counted 𝓦.scalars
-call_by 𝓦 key rowwise columnwise sheet k k' sum c =
-    call_added 𝓦.scalars (key_arrays key) (prepared 𝓦 rowwise) (prepared 𝓦 columnwise) sheet k k' sum c
+abbrev pub call_by : {E : Type 0} (𝓔 : Elements E) → List ℕ → List E → List E → List ℕ → ℕ → ℕ → Counted 𝓔.scalars → Call →
+    Counted 𝓔.scalars
+call_by 𝓔 key rowwise columnwise sheet k k' sum c =
+    call_added 𝓔.scalars (key_arrays key) (prepared 𝓔 rowwise) (prepared 𝓔 columnwise) sheet k k' sum c
 
 -- the values of array i, where those of the arrays before stand on a sheet, and the factors of its entries
-abbrev pub next_by : (𝓦 : Words) → List ℕ → List ℕ → List ℕ → List ℕ → ℕ → Counted 𝓦.scalars
-next_by 𝓦 key rowwise columnwise sheet i =
-    next_counted 𝓦.scalars (key_arrays key) (prepared 𝓦 rowwise) (prepared 𝓦 columnwise) sheet i
+abbrev pub next_by : {E : Type 0} (𝓔 : Elements E) → List ℕ → List E → List E → List ℕ → ℕ → Counted 𝓔.scalars
+next_by 𝓔 key rowwise columnwise sheet i =
+    next_counted 𝓔.scalars (key_arrays key) (prepared 𝓔 rowwise) (prepared 𝓔 columnwise) sheet i
 
 -- a sheet on which the values of so many arrays are written
-abbrev pub passed_by : Words → List ℕ → List ℕ → List ℕ → ℕ → List ℕ → List ℕ
-passed_by 𝓦 key rowwise columnwise arrays sheet =
+abbrev pub passed_by : {E : Type 0} → Elements E → List ℕ → List E → List E → ℕ → List ℕ → List ℕ
+passed_by 𝓔 key rowwise columnwise arrays sheet =
     laid 0
-    (λ i. words_of 𝓦.scalars (passed_values 𝓦.scalars (key_arrays key) (prepared 𝓦 rowwise) (prepared 𝓦 columnwise) i))
+    (λ i. words_of 𝓔.scalars (passed_values 𝓔.scalars (key_arrays key) (prepared 𝓔 rowwise) (prepared 𝓔 columnwise) i))
     arrays sheet
 
 -- a sheet on which the values of so many arrays of a key at a point are written

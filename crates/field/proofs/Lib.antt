@@ -1,4 +1,4 @@
--- Remainders of products, and how large a product of two elements is.
+-- Remainders of products.
 pub mod Remainders
 -- The divisors of p are 1 and p: trial division up to 49,153, which antt computes.
 pub mod PIsPrime
@@ -10,9 +10,9 @@ pub mod FpField
 pub mod PrimeLawful
 -- The elements that numbers make, in any field in which keys are evaluated.
 pub mod Elements
--- Two numbers stored in a list, one behind the other.
-pub mod TwoStores
 -- 1 shifted to the left in a number of so many bits is a power of two.
 pub mod OneShifted
--- What the public calls answer, by cases, and that what an answer says determines it.
+-- Elements that are the same number are the same: that it is below p is so in one way.
+pub mod EqualElements
+-- What an answer says determines it.
 pub mod Answers

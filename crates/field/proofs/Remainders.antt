@@ -1,9 +1,8 @@
--- Remainders of products, and how large a product of two elements is.
-use Prim.Native.Nat.{ℕ, ◌+◌, ◌*◌, ◌/◌, ◌%◌, ◌≤◌, ◌<◌}
+-- Remainders of products.
+use Prim.Native.Nat.{ℕ, ◌+◌, ◌*◌, ◌/◌, ◌%◌}
 use mathlib.Core.Path.{◌≡◌, sym, ap, ◌∙◌}
-use native.Mathlib.Nat.{mul_comm, mul-le-mul, div-add-mod, add-mul-mod_self_left}
+use native.Mathlib.Nat.{mul_comm, div-add-mod, add-mul-mod_self_left}
 use native.Mathlib.Omega.{arith}
-use Rattle.field.specs.Fp.{p}
 
 -- two numbers that differ by multiples of n have the same remainder
 pub same_rest : (n x y k l : ℕ) → x + n * k ≡ y + n * l → x % n ≡ y % n
@@ -16,10 +15,3 @@ mod-mul-mod a b n = same_rest n (a % n * b) (a * b) (a / n * b) 0 (omega (arith,
 
 pub mul-mod-mod : (a b n : ℕ) → (a * (b % n)) % n ≡ (a * b) % n
 mul-mod-mod a b n = rw (mul_comm a (b % n), mod-mul-mod, mul_comm b a)
-
--- (p - 1) * (p - 1)
-pub product-at-most : {a b : ℕ} → (a < p) × (b < p) → a * b ≤ 4611686009837453316
-product-at-most {a} {b} below =
-    let la : a ≤ 2147483646 = omega arith in
-    let lb : b ≤ 2147483646 = omega arith in
-    omega (arith, mul-le-mul la lb)

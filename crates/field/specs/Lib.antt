@@ -2,4 +2,3 @@ pub mod Fp
 pub mod Scalars
 pub mod Prime
 pub mod Answer
-pub mod Inner

@@ -1,17 +1,16 @@
 -- What the contracts of inner functions cite. No public promise rests on it.
-use Rattle.std.specs.Prelude.{ℕ, ◌*◌, ◌≤◌, List, ◌≡◌, length}
-use Rattle.refusal.specs.Outcome.{given}
+use Rattle.std.specs.Prelude.{Result, ℕ, ◌*◌, ◌≤◌, List, ◌≡◌, length}
+use Rattle.refusal.specs.Outcome.{Outcome, given, outcome_of}
+use Rattle.refusal.specs.declared.Refusal.{Refusal}
 use Rattle.algebra.specs.Points.{Below}
 use Rattle.field.specs.Fp.{p}
 use Rattle.field.specs.Scalars.{Scalars}
 use Rattle.key.specs.Check.{checked_key}
-use Rattle.key.specs.declared.Checked.{Checked}
 use Rattle.key.specs.declared.Counts.{Counts}
 
--- an accepted key has at most 1,024 arrays
-abbrev pub FewArrays : Checked → Type 0
-FewArrays (Checked.Accepted counts) = counts.arrays ≤ 1024
-FewArrays (Checked.Refused f) = Unit {0}
+-- what a judgement of a key of these counts answers: the counts, where nothing is refused
+abbrev pub judged : Counts → Result (Unit {0}) Refusal → Outcome Counts
+judged counts = outcome_of (λ _. counts)
 
 -- so few arrays, cells and calls that those of two keys add up; every accepted key has no more (`few-records` in
 -- proofs/KeysTogether.antt)

@@ -1,97 +1,63 @@
 // What a call is held to behind check's own rules (01, 'Order'): the point or the place, the sheet, and two keys together (02, E7).
 #![tactic(auto)]
 
-ghost use Rattle.std.specs.Prelude.{◌≡◌, ◌≤◌, max};
-ghost use Rattle.refusal.specs.Outcome.{and_then};
-ghost use Rattle.key.specs.Check.{checked_outcome};
-ghost use Rattle.judge.specs.Inner.{FewArrays, FewRecords};
+ghost use Rattle.std.specs.Prelude.{◌≡◌, ◌≤◌};
+ghost use Rattle.judge.specs.Inner.{FewRecords, judged};
 ghost use Rattle.judge.specs.Judged.{first_over, point_judged, place_judged, sheet_judged, together, pair_judged};
 
 use field::Fp;
-use key::{Checked, Counts};
-use refusal::Reason;
+use key::Counts;
+use refusal::{Reason, Refusal};
 
-// The numbers of rows and columns that a point must have, where a coordinate takes `width` numbers, and that each is below p. Inner: a
-// coordinate takes at most two.
-pub fn point(checked: Checked, width: usize, rows: &[u32], columns: &[u32]) -> Checked
+// The numbers of rows and columns that a point must have for a key of these counts, where a coordinate takes `width` numbers, and that each
+// is below p. Inner: a coordinate takes at most two.
+pub fn point(counts: Counts, width: usize, rows: &[u32], columns: &[u32]) -> Result<(), Refusal>
     requires { width ≤ 2 }
-    ensures { checked_outcome result ≡ and_then (checked_outcome checked) (point_judged width rows.now columns.now) }
-{
-    match checked {
-        Checked::Refused(refusal) => Checked::Refused(refusal),
-        Checked::Accepted(counts) => point_of(counts, width, rows, columns),
-    }
-}
-
-// A point for a key of these counts. Inner: likewise.
-fn point_of(counts: Counts, width: usize, rows: &[u32], columns: &[u32]) -> Checked
-    requires { width ≤ 2 }
-    ensures { checked_outcome result ≡ point_judged width rows.now columns.now counts }
+    ensures { judged counts result ≡ point_judged width rows.now columns.now counts }
 {
     let row_count = rows.len();
     let column_count = columns.len();
     if row_count != width * counts.rows as usize {
-        return key::refused(Reason::RowCountWrong, row_count);
+        return Err(Refusal::new(Reason::RowCountWrong, row_count));
     }
     if column_count != width * counts.columns as usize {
-        return key::refused(Reason::ColumnCountWrong, column_count);
+        return Err(Refusal::new(Reason::ColumnCountWrong, column_count));
     }
     let row = first_over(rows);
     if row < row_count {
-        return key::refused(Reason::CoordinateTooGreat, row);
+        return Err(Refusal::new(Reason::CoordinateTooGreat, row));
     }
     let column = first_over(columns);
     if column < column_count {
-        return key::refused(Reason::CoordinateTooGreat, row_count + column);
+        return Err(Refusal::new(Reason::CoordinateTooGreat, row_count + column));
     }
-    Checked::Accepted(counts)
+    Ok(())
 }
 
-// The row and the column of a place in the last array.
-pub fn place(checked: Checked, row: u32, column: u32) -> Checked
-    ensures { checked_outcome result ≡ and_then (checked_outcome checked) (place_judged row column) }
-{
-    match checked {
-        Checked::Refused(refusal) => Checked::Refused(refusal),
-        Checked::Accepted(counts) => place_of(counts, row, column),
-    }
-}
-
-// A place for a key of these counts.
-fn place_of(counts: Counts, row: u32, column: u32) -> Checked
-    ensures { checked_outcome result ≡ place_judged row column counts }
+// The row and the column of a place in the last array of a key of these counts.
+pub fn place(counts: Counts, row: u32, column: u32) -> Result<(), Refusal>
+    ensures { judged counts result ≡ place_judged row column counts }
 {
     if rules::outside(counts.rows, row) {
-        return key::refused(Reason::AddressOutside, 0);
+        return Err(Refusal::new(Reason::AddressOutside, 0));
     }
     if rules::outside(counts.columns, column) {
-        return key::refused(Reason::AddressOutside, 1);
+        return Err(Refusal::new(Reason::AddressOutside, 1));
     }
-    Checked::Accepted(counts)
+    Ok(())
 }
 
-// The number of places that a sheet must have, where an array takes `each` of them. Inner: it takes at most six, and the key has no more
-// arrays than a key may have.
-pub fn sheet(checked: Checked, each: usize, places: usize) -> Checked
-    requires { (each ≤ 6) × FewArrays checked }
-    ensures { checked_outcome result ≡ and_then (checked_outcome checked) (sheet_judged each places) }
-{
-    match checked {
-        Checked::Refused(refusal) => Checked::Refused(refusal),
-        Checked::Accepted(counts) => sheet_of(counts, each, places),
-    }
-}
-
-// A sheet of so many places for a key of these counts. Inner: likewise.
-fn sheet_of(counts: Counts, each: usize, places: usize) -> Checked
+// The number of places that a sheet must have for a key of these counts, where an array takes `each` of them. Inner: it takes at most six,
+// and the key has no more arrays than a key may have.
+pub fn sheet(counts: Counts, each: usize, places: usize) -> Result<(), Refusal>
     requires { (each ≤ 6) × (counts.arrays ≤ 1024) }
-    ensures { checked_outcome result ≡ sheet_judged each places counts }
+    ensures { judged counts result ≡ sheet_judged each places counts }
 {
     let needed = each * counts.arrays;
     if places < needed {
-        return key::refused(Reason::SheetTooShort, needed);
+        return Err(Refusal::new(Reason::SheetTooShort, needed));
     }
-    Checked::Accepted(counts)
+    Ok(())
 }
 
 // The index of the first number that is p or more, or how many there are. Two are tried in a turn (docs/PERFORMANCE.md).
@@ -126,13 +92,13 @@ pub fn pair(
     rows: &[u32],
     columns: &[u32],
     places: usize,
-) -> Checked
+) -> Result<(), Refusal>
     requires { (width ≤ 2) × FewRecords one × FewRecords other }
-    ensures { checked_outcome result ≡ pair_judged width rows.now columns.now places one other }
+    ensures { judged (together one other) result ≡ pair_judged width rows.now columns.now places one other }
 {
     let both = together(one, other);
-    let pointed = point_of(both, width, rows, columns);
-    sheet(pointed, 3 * width, places)
+    point(both, width, rows, columns)?;
+    sheet(both, 3 * width, places)
 }
 
 // What two keys of these counts are judged by together. Inner: the counts are those of keys.
@@ -140,36 +106,11 @@ fn together(one: Counts, other: Counts) -> Counts
     requires { FewRecords one × FewRecords other }
     ensures { result ≡ together one other }
 {
-    let arrays = more(one.arrays, other.arrays);
-    let cells = one.cells + other.cells;
-    let calls = one.calls + other.calls;
-    let rows = larger(one.rows, other.rows);
-    let columns = larger(one.columns, other.columns);
     Counts {
-        arrays: arrays,
-        cells: cells,
-        calls: calls,
-        rows: rows,
-        columns: columns,
+        arrays: one.arrays.max(other.arrays),
+        cells: one.cells + other.cells,
+        calls: one.calls + other.calls,
+        rows: one.rows.max(other.rows),
+        columns: one.columns.max(other.columns),
     }
-}
-
-// The greater of two counts.
-fn more(one: usize, other: usize) -> usize
-    ensures { result ≡ max one other }
-{
-    if one < other {
-        return other;
-    }
-    one
-}
-
-// The larger of two numbers of bits.
-fn larger(one: u8, other: u8) -> u8
-    ensures { result ≡ max one other }
-{
-    if one < other {
-        return other;
-    }
-    one
 }

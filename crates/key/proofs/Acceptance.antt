@@ -1,4 +1,5 @@
 -- What it means that a key is accepted: it is the key of well_formed arrays in its edition.
+use Rattle.std.specs.Prelude.{Ok}
 use Prim.Native.Nat.{ℕ, suc, ◌+◌, ◌-◌, ◌≤◌}
 use mathlib.Core.Bool.{Bool}
 use mathlib.Core.List.{flat_map, List, [], ◌∷◌, ◌++◌, append-nil}
@@ -9,7 +10,6 @@ use Rattle.refusal.specs.Outcome.{given}
 use Rattle.records.specs.Kinds.{encoded, bytes_of_all}
 use Rattle.records.specs.Take.{taken_outcome, taken_at}
 use Rattle.records.specs.declared.Record.{Record}
-use Rattle.records.specs.declared.Taken.{Taken}
 use Rattle.records.proofs.TakeCases.{given-onward}
 use Rattle.arrays.specs.Arrays.{Array, array_at}
 use Rattle.arrays.specs.Placing.{blocks}
@@ -115,7 +115,7 @@ module _ (key : List ℕ) (counts : Counts) (accepted : checked_key key ≡ give
             (arrays-run key m.scaled 3 arrays (Record.End ∷ []) _ behind-head i l));
         end =
             ap (taken_at key) (sym e) ∙ end-runs.0
-            ∙ ap (λ (to : ℕ). taken_outcome (Taken.Record Record.End to)) (sym end-is-last);
+            ∙ ap (λ (to : ℕ). taken_outcome (Ok (Record.End, to))) (sym end-is-last);
       }
 
   -- said of the edition, the head's bits and the arrays that were found, a claim holds of those that are answered
@@ -129,12 +129,12 @@ module _ (key : List ℕ) (counts : Counts) (accepted : checked_key key ≡ give
 
   -- the head is taken at the first byte
   pub first-record :
-      taken_at key 0 ≡ taken_outcome (Taken.Record (head_record (key_scaled key) counts.rows counts.columns) 3)
+      taken_at key 0 ≡ taken_outcome (Ok ((head_record (key_scaled key) counts.rows counts.columns), 3))
   unfolding all
   first-record =
-      claim (λ s k k' a. taken_at key 0 ≡ taken_outcome (Taken.Record (head_record s k k') 3))
+      claim (λ s k k' a. taken_at key 0 ≡ taken_outcome (Ok ((head_record s k k'), 3)))
       (runs.0
-      ∙ ap (λ (n : ℕ). taken_outcome (Taken.Record (head_record m.scaled m.n m.n') (0 + n)))
+      ∙ ap (λ (n : ℕ). taken_outcome (Ok ((head_record m.scaled m.n m.n'), (0 + n))))
       (head-length m.scaled m.n m.n'))
 
   pub acceptance : Accepted key counts

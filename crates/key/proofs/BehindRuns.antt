@@ -1,4 +1,5 @@
 -- Behind a run of entries, a head or an opening the walk stands where it would have come to record by record.
+use Rattle.std.specs.Prelude.{Ok}
 use Prim.Native.Nat.{ℕ, min, ◌+◌, ◌-◌, ◌*◌, ◌/◌, ◌≤◌, ◌<◌}
 use mathlib.Core.Bool.{Bool, true, false}
 use mathlib.Core.List.{List, [], ◌∷◌, map}
@@ -13,7 +14,6 @@ use Rattle.records.specs.Take.{taken_outcome, taken_at}
 use Rattle.records.specs.declared.Cell.{Cell}
 use Rattle.records.specs.declared.Record.{Record}
 use Rattle.records.specs.declared.Shape.{Shape}
-use Rattle.records.specs.declared.Taken.{Taken}
 use Rattle.records.proofs.PresentIsTaken.{present-taken}
 use Rattle.records.proofs.TakeCases.{given-onward}
 use Rattle.arrays.specs.WellFormed.{Each}
@@ -24,7 +24,6 @@ use Rattle.key.specs.Index.{Runs}
 use Rattle.rules.specs.Inner.{call_rules_in, scaled_call_rules_in, AllKept}
 use Rattle.key.specs.Inner.{IsEntry, rules_seen, seen_in, opening, passed, after, Run, Here}
 use Rattle.rules.specs.Rules.{Rule, head_rules, cell_rules, opening_rules}
-use Rattle.rules.specs.declared.Verdict.{Verdict}
 use Rattle.key.specs.declared.seen.Seen.{Seen}
 use Rattle.key.proofs.CheckSoFar.{begins}
 use Rattle.rules.proofs.Verdicts.{kept-held}
@@ -34,22 +33,22 @@ use Rattle.key.proofs.CheckOneRecord.{goes_on}
 
 -- an entry that keeps its rules is passed, and the table stays
 pub entry-passed : {key starts : List ℕ} {seen : Seen} {at : ℕ} (item : Record) → IsEntry item → Here key starts seen at →
-    taken_at key at ≡ taken_outcome (Taken.Record item (at + length (encoded item))) → at + length (encoded item) ≤ length key →
+    taken_at key at ≡ taken_outcome (Ok (item, (at + length (encoded item)))) → at + length (encoded item) ≤ length key →
     AllKept (rules_seen seen key starts item) → Here key starts (after seen item) (at + length (encoded item))
 unfolding rules_behind
 entry-passed (Record.Head shape) entry H e room kept = absurd entry
 entry-passed (Record.Sparse shape) entry H e room kept = absurd entry
 entry-passed (Record.Recursive shape) entry H e room kept = absurd entry
 entry-passed {seen = seen} {at = at} (Record.Cell cell) entry H e room kept =
-    goes_on H (Record.Cell cell) _ e (kept-held Verdict.Kept at (cell_rules seen.array cell) kept refl) refl (omega arith) room
+    goes_on H (Record.Cell cell) _ e (kept-held (Ok tt) at (cell_rules seen.array cell) kept refl) refl (omega arith) room
 entry-passed {key = key} {starts = starts} {seen = seen} {at = at} (Record.Call call) entry H e room kept =
     goes_on H (Record.Call call) _ e
-    (kept-held Verdict.Kept at (call_rules_in key starts seen.scaled seen.array seen.arrays call) kept refl) refl (omega arith) room
+    (kept-held (Ok tt) at (call_rules_in key starts seen.scaled seen.array seen.arrays call) kept refl) refl (omega arith) room
 entry-passed Record.End entry H e room kept = absurd entry
 entry-passed (Record.ScaledHead shape) entry H e room kept = absurd entry
 entry-passed {key = key} {starts = starts} {seen = seen} {at = at} (Record.ScaledCall call) entry H e room kept =
     goes_on H (Record.ScaledCall call) _ e
-    (kept-held Verdict.Kept at (scaled_call_rules_in key starts seen.scaled seen.array seen.arrays call) kept refl) refl (omega arith)
+    (kept-held (Ok tt) at (scaled_call_rules_in key starts seen.scaled seen.array seen.arrays call) kept refl) refl (omega arith)
     room
 
 -- behind an entry the rules of entries are what they were
@@ -221,11 +220,11 @@ module _ (key starts : List ℕ) (short : length key ≤ 65536) (places : min 10
   head_passed false kind =
       goes_on (begins key starts short places) (Record.Head shape) 3
       (present-taken key 0 (Record.Head shape) (record { kind = kind; room = room; fields = fields }))
-      (kept-held Verdict.Kept 0 (head_rules true shape) kept refl) refl (omega arith) room
+      (kept-held (Ok tt) 0 (head_rules true shape) kept refl) refl (omega arith) room
   head_passed true kind =
       goes_on (begins key starts short places) (Record.ScaledHead shape) 3
       (present-taken key 0 (Record.ScaledHead shape) (record { kind = kind; room = room; fields = fields }))
-      (kept-held Verdict.Kept 0 (head_rules true shape) kept refl) refl (omega arith) room
+      (kept-held (Ok tt) 0 (head_rules true shape) kept refl) refl (omega arith) room
 
 -- an opening that keeps its rules is passed, and its offset noted
 pub opening-passed : {key starts : List ℕ} {seen : Seen} {at : ℕ} → Here key starts seen at → (kind : ℕ) (shape : Shape) → 2 ≤ kind → kind ≤ 3 →
@@ -234,7 +233,7 @@ pub opening-passed : {key starts : List ℕ} {seen : Seen} {at : ℕ} → Here k
     Here key (set starts seen.arrays at) (opening seen kind shape) (at + 3)
 unfolding rules_behind
 opening-passed {key = key} {starts = starts} {seen = seen} {at = at} H kind shape low high is room fields kept =
-    let held = kept-held Verdict.Kept at (opening_rules seen.first seen.head seen.arrays shape) kept refl in
+    let held = kept-held (Ok tt) at (opening_rules seen.first seen.head seen.arrays shape) kept refl in
     elim (ℕ_discrete kind 2) [
       | yes e ↦ subst Behind (sym e)
           (goes_on H (Record.Sparse shape) (at + 3)

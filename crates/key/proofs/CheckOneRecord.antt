@@ -1,4 +1,5 @@
 -- What taking and judging a record means for the check's answer, from where the walk stands.
+use Rattle.std.specs.Prelude.{Result, Ok, Err}
 use Prim.Native.Nat.{ℕ, zero, suc, ◌+◌, ◌*◌, ◌≤◌, ◌<◌}
 use mathlib.Core.Bool.{true}
 use mathlib.Core.List.{flat_map, List, [], ◌∷◌, ◌++◌, map, map-append, append-nil}
@@ -11,11 +12,9 @@ use Rattle.refusal.specs.declared.Refusal.{Refusal}
 use Rattle.records.specs.Kinds.{encoded}
 use Rattle.records.specs.Take.{taken_outcome, taken_at}
 use Rattle.records.specs.declared.Record.{Record}
-use Rattle.records.specs.declared.Taken.{Taken}
 use Rattle.records.proofs.PresentIsTaken.{taken-present}
 use Rattle.rules.specs.Inner.{AllKept, Narrow}
 use Rattle.rules.specs.declared.Opening.{Opening}
-use Rattle.rules.specs.declared.Verdict.{Verdict}
 use Rattle.key.specs.Before.{opening_in, opened}
 use Rattle.key.specs.Check.{rules_of, judged, checked_key}
 use Rattle.key.specs.Index.{starts_in, starts_of}
@@ -63,18 +62,18 @@ module _ {key starts : List ℕ} {seen : Seen} {at : ℕ} (H : Here key starts s
       go (suc later) enough read same = record { later = later; enough = enough; read = read; same = same }
 
   -- no record can be taken
-  pub stops : (f : Refusal) → taken_at key at ≡ taken_outcome (Taken.Refused f) → checked_key key ≡ refusal_of f
+  pub stops : (f : Refusal) → taken_at key at ≡ taken_outcome (Err f) → checked_key key ≡ refusal_of f
   unfolding judged
   stops f e = ready.same ∙ ap (judged (length key) (items H.past)) (read-stopped ready.later key at _ _ e)
 
-  module _ (item : Record) (next : ℕ) (e : taken_at key at ≡ taken_outcome (Taken.Record item next)) where
+  module _ (item : Record) (next : ℕ) (e : taken_at key at ≡ taken_outcome (Ok (item, next))) where
     this : Located
     this = record { item = item; at = at; next = next }
 
     rest : Reading
     rest = behind item (read_from ready.later key next)
 
-    abbrev verdict : Verdict
+    abbrev verdict : (Result (Unit {0}) Refusal)
     verdict = verdict_on seen key starts at next item
 
     -- the answer goes by the verdict on the record
@@ -89,12 +88,12 @@ module _ {key starts : List ℕ} {seen : Seen} {at : ℕ} (H : Here key starts s
         (sym H.seen_is)
 
     -- the record breaks a rule
-    pub breaks : (f : Refusal) → verdict ≡ Verdict.Refused f → checked_key key ≡ refusal_of f
-    breaks f v = turns ∙ ap (λ (w : Verdict). settled w (judged (length key) (items H.past ++ (item ∷ [])) rest)) v
+    pub breaks : (f : Refusal) → verdict ≡ Err f → checked_key key ≡ refusal_of f
+    breaks f v = turns ∙ ap (λ (w : Result (Unit {0}) Refusal). settled w (judged (length key) (items H.past ++ (item ∷ [])) rest)) v
 
-    module _ (v : verdict ≡ Verdict.Kept) where
+    module _ (v : verdict ≡ (Ok tt)) where
       goes : checked_key key ≡ judged (length key) (items H.past ++ (item ∷ [])) rest
-      goes = turns ∙ ap (λ (w : Verdict). settled w (judged (length key) (items H.past ++ (item ∷ [])) rest)) v
+      goes = turns ∙ ap (λ (w : Result (Unit {0}) Refusal). settled w (judged (length key) (items H.past ++ (item ∷ [])) rest)) v
 
       -- the record is the end of an accepted key, and the openings' offsets are all noted
       pub ends : is_end item ≡ true → checked_key key ≡ given (counts_seen seen)
@@ -118,7 +117,7 @@ module _ {key starts : List ℕ} {seen : Seen} {at : ℕ} (H : Here key starts s
           ∙ ap (λ (s : Seen). take s.arrays starts) (sym H.seen_is)
 
     -- the record keeps its rules and is no end, and the walk goes on behind it
-    module _ (v : verdict ≡ Verdict.Kept) (on : Onward item) (forward : at < next) (inside : next ≤ length key) where
+    module _ (v : verdict ≡ (Ok tt)) (on : Onward item) (forward : at < next) (inside : next ≤ length key) where
       before : List Record
       before = items H.past
 

@@ -1,4 +1,5 @@
 -- The entries of an array that are left from an offset on: what stands there, and what is left behind it.
+use Rattle.std.specs.Prelude.{Ok}
 use Prim.Native.Nat.{ℕ, ◌+◌, ◌*◌, ◌≤◌, ◌<◌}
 use mathlib.Core.List.{List, [], ◌∷◌}
 use mathlib.Core.Path.{◌≡◌, sym, ap, subst, ◌∙◌}
@@ -8,7 +9,6 @@ use Rattle.records.specs.Inner.{call_size}
 use Rattle.records.specs.Kinds.{encoded}
 use Rattle.records.specs.Take.{taken_outcome, taken_at}
 use Rattle.records.specs.declared.Record.{Record}
-use Rattle.records.specs.declared.Taken.{Taken}
 use Rattle.records.proofs.TakeCases.{given-onward}
 use Rattle.arrays.specs.Arrays.{Cell, Call, Entries, cells, calls, Array, array_at}
 use Rattle.arrays.specs.Placing.{blocks}
@@ -38,7 +38,7 @@ module _ (key : List ℕ) (i to : ℕ) where
 
   -- a cell stands at the offset, and others are left behind it
   pub record CellFirst (c : Cell) (list : List Cell) (at : ℕ) : Type 0 where
-    pub taken : taken_at key at ≡ taken_outcome (Taken.Record (cell_record c) (at + 21))
+    pub taken : taken_at key at ≡ taken_outcome (Ok ((cell_record c), (at + 21)))
     pub fits : CellFits own.row_bits own.column_bits c
     pub onward : Left (cells list) (at + 21)
 
@@ -52,7 +52,7 @@ module _ (key : List ℕ) (i to : ℕ) where
 
   -- the same of a call, in the key's edition
   pub record CallFirst (c : Call) (list : List Call) (at : ℕ) : Type 0 where
-    pub taken : taken_at key at ≡ taken_outcome (Taken.Record (call_record (key_scaled key) c) (at + call_size (key_scaled key)))
+    pub taken : taken_at key at ≡ taken_outcome (Ok ((call_record (key_scaled key) c), (at + call_size (key_scaled key))))
     pub fits : CallFits blocks blocks (key_arrays key) i own.row_bits own.column_bits c
     pub written : FactorIn (key_scaled key) c.factor
     pub onward : Left (calls list) (at + call_size (key_scaled key))
@@ -62,7 +62,7 @@ module _ (key : List ℕ) (i to : ℕ) where
       let size = call_length (key_scaled key) c in
       record {
         taken =
-            left.runs.0 ∙ ap (λ (n : ℕ). taken_outcome (Taken.Record (call_record (key_scaled key) c) (at + n))) size;
+            left.runs.0 ∙ ap (λ (n : ℕ). taken_outcome (Ok ((call_record (key_scaled key) c), (at + n)))) size;
         fits = left.fit.0;
         written = left.written.0;
         onward = record {

@@ -1,4 +1,6 @@
 -- What the index promises, from what the walk finds.
+use Rattle.refusal.specs.declared.Refusal.{Refusal}
+use Rattle.std.specs.Prelude.{Result}
 use Prim.Native.Nat.{ℕ, ◌≤◌, ◌<◌}
 use mathlib.Core.List.{List}
 use mathlib.Core.Path.{◌≡◌, sym, ap, ◌∙◌}
@@ -10,14 +12,13 @@ use Rattle.refusal.specs.declared.Reason.{Reason}
 use Rattle.refusal.proofs.Outcomes.{given-not-refused}
 use Rattle.key.specs.Check.{checked_outcome, checked_key}
 use Rattle.key.specs.Index.{starts_of, Indexing}
-use Rattle.key.specs.declared.Checked.{Checked}
 use Rattle.key.specs.declared.Counts.{Counts}
 
 pub too_long : (key : List ℕ) → 65536 < length key → checked_key key ≡ refuse Reason.KeyTooLong 65536
 unfolding checked_key
 too_long key long = simp (lt-ltb 65536 (length key) long)
 
-module _ (key : List ℕ) (answer : Checked) (after : List ℕ) where
+module _ (key : List ℕ) (answer : Result Counts Refusal) (after : List ℕ) where
   abbrev Promise : Type 0
   Promise = (checked_outcome answer ≡ checked_key key) × Indexing key after
 

@@ -1,4 +1,5 @@
 -- What stands at the offsets of an accepted key that is indexed: each array's opening, and its entries behind it.
+use Rattle.std.specs.Prelude.{Ok}
 use Prim.Native.Nat.{ℕ, ◌+◌, ◌-◌, ◌≤◌, ◌<◌}
 use mathlib.Core.Bool.{Bool, true, false}
 use mathlib.Core.List.{List, [], ◌∷◌, ◌++◌}
@@ -12,7 +13,6 @@ use Rattle.refusal.specs.Outcome.{given}
 use Rattle.records.specs.Kinds.{encoded}
 use Rattle.records.specs.Take.{taken_outcome, taken_at}
 use Rattle.records.specs.declared.Record.{Record}
-use Rattle.records.specs.declared.Taken.{Taken}
 use Rattle.records.proofs.PresentIsTaken.{taken-present}
 use Rattle.records.proofs.TakeCases.{given-onward}
 use Rattle.arrays.specs.Arrays.{Entries, cells, calls, Array, array_at}
@@ -37,7 +37,7 @@ pub edition-byte : (key : List ℕ) (counts : Counts) → checked_key key ≡ gi
     (0 < length key) × (eqb (get_or key 0 0) 0x07 ≡ key_scaled key)
 edition-byte key counts accepted = first (key_scaled key) counts.rows counts.columns (first-record key counts accepted)
   where
-    first : (scaled : Bool) (n n' : ℕ) → taken_at key 0 ≡ taken_outcome (Taken.Record (head_record scaled n n') 3) →
+    first : (scaled : Bool) (n n' : ℕ) → taken_at key 0 ≡ taken_outcome (Ok ((head_record scaled n n'), 3)) →
         (0 < length key) × (eqb (get_or key 0 0) 0x07 ≡ scaled)
     first false n n' taken =
         (omega (arith, given-onward key 0 _ taken), ap (λ (k : ℕ). eqb k 0x07) (taken-present key 0 (head_record false n n') 3 taken).0.kind)
@@ -59,14 +59,14 @@ module _ (key starts : List ℕ) (indexed : Indexed key starts) where
     opening : Record
     opening = opening_record own.row_bits own.column_bits own.entries
 
-    opened : taken_at key (get_or starts i 0) ≡ taken_outcome (Taken.Record opening (get_or starts i 0 + 3))
+    opened : taken_at key (get_or starts i 0) ≡ taken_outcome (Ok (opening, (get_or starts i 0 + 3)))
     unfolding opening
     opened =
         subst
-        (λ (from : ℕ). taken_at key from ≡ taken_outcome (Taken.Record opening (from + 3)))
+        (λ (from : ℕ). taken_at key from ≡ taken_outcome (Ok (opening, (from + 3))))
         (sym (indexed.offsets i l))
         ((accepts.index.runs i l).0
-        ∙ ap (λ (n : ℕ). taken_outcome (Taken.Record opening (get_or (starts_of key) i 0 + n))) (opening-length _ _ own.entries))
+        ∙ ap (λ (n : ℕ). taken_outcome (Ok (opening, (get_or (starts_of key) i 0 + n)))) (opening-length _ _ own.entries))
 
     -- the entries run from three bytes behind the opening's offset on
     pub entries-run : Runs key (get_or starts i 0 + 3) (entry_records (key_scaled key) own.entries) (behind_array i)
@@ -93,7 +93,7 @@ module _ (key starts : List ℕ) (indexed : Indexed key starts) where
       where
         go : (entries : Entries) →
             taken_at key (get_or starts i 0) ≡
-            taken_outcome (Taken.Record (opening_record own.row_bits own.column_bits entries) (get_or starts i 0 + 3)) →
+            taken_outcome (Ok ((opening_record own.row_bits own.column_bits entries), (get_or starts i 0 + 3))) →
             Sparse entries
         go (cells list) taken = tt
         go (calls list) taken = absurd (omega (arith, e, (taken-present key (get_or starts i 0) (Record.Recursive _) _ taken).0.kind))
@@ -104,7 +104,7 @@ module _ (key starts : List ℕ) (indexed : Indexed key starts) where
       where
         go : (entries : Entries) →
             taken_at key (get_or starts i 0) ≡
-            taken_outcome (Taken.Record (opening_record own.row_bits own.column_bits entries) (get_or starts i 0 + 3)) →
+            taken_outcome (Ok ((opening_record own.row_bits own.column_bits entries), (get_or starts i 0 + 3))) →
             Recursive entries
         go (cells list) taken = absurd (other (taken-present key (get_or starts i 0) (Record.Sparse _) _ taken).0.kind)
         go (calls list) taken = tt
@@ -116,7 +116,7 @@ module _ (key starts : List ℕ) (indexed : Indexed key starts) where
       where
         go : (entries : Entries) →
             taken_at key (get_or starts i 0) ≡
-            taken_outcome (Taken.Record (opening_record own.row_bits own.column_bits entries) (get_or starts i 0 + 3)) →
+            taken_outcome (Ok ((opening_record own.row_bits own.column_bits entries), (get_or starts i 0 + 3))) →
             Stands key (get_or starts i 0) (record { rows = own.row_bits; columns = own.column_bits })
         go (cells list) e = (opening-stands key (get_or starts i 0) _ (Record.Sparse _) e).0
         go (calls list) e = (opening-stands key (get_or starts i 0) _ (Record.Recursive _) e).0

@@ -72,8 +72,12 @@ pub mod WhereRunsStop
 pub mod IndexPromises
 -- What stands at the offsets of an accepted key that is indexed: each array's opening, and its entries behind it.
 pub mod IndexedKey
+-- A key is indexed by a table in one way at most: its counts are those that check answers.
+pub mod IndexedOnce
 -- The entries of an array that are left from an offset on: what stands there, and what is left behind it.
 pub mod EntriesLeft
+-- The bytes of an array's entries, taken off one entry at a time: where what is left of them stands in the key, and what is read there.
+pub mod EntryChunks
 -- For worked examples: one name for the definitions by which a key is read and checked. `unfolding checking` unfolds them all.
 pub mod Computing
 -- The key of 01's keysheet input, its arrays and where they begin, and a key for each refusal.

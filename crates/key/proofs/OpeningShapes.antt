@@ -1,4 +1,5 @@
 -- Where an opening is taken, its shape stands in the two bytes behind its kind.
+use Rattle.std.specs.Prelude.{Ok}
 use Prim.Native.Nat.{ℕ, ◌+◌, ◌<◌}
 use mathlib.Core.Bool.{Bool, cond}
 use mathlib.Core.List.{List, [], ◌∷◌}
@@ -13,7 +14,6 @@ use Rattle.records.specs.Layout.{number_in, fields_in}
 use Rattle.records.specs.Take.{taken_outcome, taken_at}
 use Rattle.records.specs.declared.Record.{Record}
 use Rattle.records.specs.declared.Shape.{Shape}
-use Rattle.records.specs.declared.Taken.{Taken}
 use Rattle.records.proofs.NumberBytes.{byte-in}
 use Rattle.records.proofs.PresentIsTaken.{taken-present}
 use Rattle.arrays.specs.WellFormed.{Each}
@@ -24,7 +24,7 @@ use Rattle.rules.specs.declared.Opening.{Opening}
 
 module _ (key : List ℕ) (at next : ℕ) where
   shape-stands : (item : Record) (shape : Shape) → fields_of item ≡ shape_fields shape → widths_of (kind_of item) ≡ 1 ∷ 1 ∷ [] →
-      length (encoded item) ≡ 3 → taken_at key at ≡ taken_outcome (Taken.Record item next) → Stands key at shape
+      length (encoded item) ≡ 3 → taken_at key at ≡ taken_outcome (Ok (item, next)) → Stands key at shape
   shape-stands item shape f w three e =
       let here = (taken-present key at item next e).0 in
       let fields : shape_fields shape ≡ fields_in (1 ∷ 1 ∷ []) (drop (at + 1) key) =
@@ -40,7 +40,7 @@ module _ (key : List ℕ) (at next : ℕ) where
       ∙ sym (ap (λ (l : List ℕ). get_or l 1 0) fields) in
       (inside, λ t. record { rows = rows t; columns = columns t })
 
-  pub opening-stands : (item : Record) → taken_at key at ≡ taken_outcome (Taken.Record item next) →
+  pub opening-stands : (item : Record) → taken_at key at ≡ taken_outcome (Ok (item, next)) →
       Each (λ (o : Opening). Stands key at o.shape) (opening_in item)
   opening-stands (Record.Head shape) e = tt
   opening-stands (Record.Sparse shape) e = (shape-stands (Record.Sparse shape) shape refl refl refl e, tt)

@@ -1,4 +1,5 @@
 -- What a reading is, by what can be taken at an offset, and that the number of steps does not matter.
+use Rattle.std.specs.Prelude.{Ok}
 use Prim.Native.Nat.{ℕ, zero, suc, ◌+◌, ◌≤◌, ◌<◌}
 use mathlib.Core.List.{List}
 use mathlib.Core.Path.{◌≡◌, refl, sym, ap, ◌∙◌}
@@ -8,13 +9,12 @@ use Rattle.refusal.specs.Outcome.{Outcome, given, refused}
 use Rattle.records.specs.Kinds.{record_of}
 use Rattle.records.specs.Take.{Found, taken_outcome, taken_at}
 use Rattle.records.specs.declared.Record.{Record}
-use Rattle.records.specs.declared.Taken.{Taken}
 use Rattle.records.proofs.Answers.{record-back}
 use Rattle.records.proofs.TakeCases.{given-onward}
 use Rattle.key.specs.Reading.{Reading, stopped, located, behind, read_at, read_from}
 
 module _ (steps : ℕ) (key : List ℕ) (at : ℕ) where
-  pub read-record : (item : Record) (next : ℕ) → taken_at key at ≡ taken_outcome (Taken.Record item next) →
+  pub read-record : (item : Record) (next : ℕ) → taken_at key at ≡ taken_outcome (Ok (item, next)) →
       read_from (suc steps) key at ≡ located (record { item = item; at = at; next = next }) (behind item (read_from steps key next))
   unfolding read_from read_at
   read-record item next e =

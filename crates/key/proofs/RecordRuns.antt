@@ -1,5 +1,6 @@
 -- The records that are read are taken one behind the other.
 -- Those of each array run from its offset to the next, and they are the bytes there.
+use Rattle.std.specs.Prelude.{Ok}
 use Prim.Native.Nat.{ℕ, zero, suc, ◌+◌, ◌-◌, ◌<◌}
 use mathlib.Core.Bool.{Bool}
 use mathlib.Core.List.{flat_map, List, [], ◌∷◌, ◌++◌, append_assoc}
@@ -12,7 +13,6 @@ use Rattle.refusal.specs.Outcome.{Outcome, given, refused}
 use Rattle.records.specs.Kinds.{record_of, encoded, bytes_of_all}
 use Rattle.records.specs.Take.{Found, taken_outcome, taken_at}
 use Rattle.records.specs.declared.Record.{Record}
-use Rattle.records.specs.declared.Taken.{Taken}
 use Rattle.records.proofs.FoundIsRecord.{found-taken}
 use Rattle.records.proofs.RoundTrip.{taken-bytes}
 use Rattle.arrays.specs.Arrays.{Array, array_at}
@@ -54,7 +54,7 @@ module _ (key : List ℕ) where
           let read = cut r found.next (ends-or-not r) (later found.next) in
           let rest : List Record = items (located_in (behind r (read_from steps key found.next))) in (
             (
-              here.0 ∙ ap (λ (n : ℕ). taken_outcome (Taken.Record r n)) here.1,
+              here.0 ∙ ap (λ (n : ℕ). taken_outcome (Ok (r, n))) here.1,
               runs_to (at + length (encoded r)) rest _ _ (behind-cons at r rest)
                   (subst (λ (m : ℕ). Runs key m rest (offset_behind m rest)) here.1 read.0),
             ),

@@ -1,4 +1,5 @@
 -- By what the code has seen of the records before, its verdict on a record and its counts are the definition's.
+use Rattle.std.specs.Prelude.{Ok}
 use Prim.Native.Nat.{ℕ, ◌-◌}
 use mathlib.Core.List.{flat_map, List, [], ◌∷◌, ◌++◌, append-nil}
 use mathlib.Core.Path.{◌≡◌, refl, ap, subst, ◌∙◌}
@@ -9,7 +10,6 @@ use Rattle.records.specs.declared.Record.{Record}
 use Rattle.records.specs.declared.Shape.{Shape}
 use Rattle.rules.specs.Inner.{held_to, AllKept}
 use Rattle.rules.specs.Rules.{Rule, call_rules, scaled_call_rules}
-use Rattle.rules.specs.declared.Verdict.{Verdict}
 use Rattle.rules.proofs.Verdicts.{held_kept}
 use Rattle.key.specs.Before.{opening_in, opened, open_now, head_of, is_scaled, count_of, call_count}
 use Rattle.key.specs.Check.{counts_of, first_broken, rules_of, rules_behind, judged_by}
@@ -39,10 +39,10 @@ rules-seen before key starts stand (Record.ScaledCall call) =
 
 -- where the verdict is that the rules are kept, they are: by what was seen
 pub rules-kept : (seen : Seen) (key starts : List ℕ) (at next : ℕ) (item : Record) →
-    verdict_on seen key starts at next item ≡ Verdict.Kept → AllKept (rules_seen seen key starts item)
+    verdict_on seen key starts at next item ≡ (Ok tt) → AllKept (rules_seen seen key starts item)
 rules-kept seen key starts at next item e =
-    (held_kept Verdict.Kept at (rules_seen seen key starts item)
-    (held_kept (held_to Verdict.Kept at (rules_seen seen key starts item)) next (rules_behind item next (length key)) e).0).1
+    (held_kept (Ok tt) at (rules_seen seen key starts item)
+    (held_kept (held_to (Ok tt) at (rules_seen seen key starts item)) next (rules_behind item next (length key)) e).0).1
 
 module _ (before : List Record) (key starts : List ℕ) (stand : ShapesStand key starts (opened before)) (at next : ℕ)
     (item : Record) where
@@ -51,14 +51,14 @@ module _ (before : List Record) (key starts : List ℕ) (stand : ShapesStand key
       settled (verdict_on (seen_in before) key starts at next item) rest ≡
       judged_by (length key) before (record { item = item; at = at; next = next }) rest
   verdict-judges rest =
-      held-settled (held_to Verdict.Kept at (rules_seen (seen_in before) key starts item)) next (rules_behind item next (length key)) rest
-      ∙ held-settled Verdict.Kept at (rules_seen (seen_in before) key starts item)
+      held-settled (held_to (Ok tt) at (rules_seen (seen_in before) key starts item)) next (rules_behind item next (length key)) rest
+      ∙ held-settled (Ok tt) at (rules_seen (seen_in before) key starts item)
       (first_broken next (rules_behind item next (length key)) rest)
       ∙ ap (λ (rules : List Rule). first_broken at rules (first_broken next (rules_behind item next (length key)) rest))
       (rules-seen before key starts stand item)
 
   -- and by the definition
-  pub verdict-kept : verdict_on (seen_in before) key starts at next item ≡ Verdict.Kept → AllKept (rules_of before item)
+  pub verdict-kept : verdict_on (seen_in before) key starts at next item ≡ (Ok tt) → AllKept (rules_of before item)
   verdict-kept e = subst AllKept (rules-seen before key starts stand item) (rules-kept (seen_in before) key starts at next item e)
 
 -- ---- the end

@@ -1,4 +1,6 @@
 -- What stands where the runs stop: behind entries only an opening or an end can keep its rules, and behind arrays only an end.
+use Rattle.std.specs.Prelude.{is_ok}
+use Rattle.std.specs.Prelude.{Result, Ok, Err}
 use Prim.Native.Nat.{ℕ, ◌+◌, ◌<◌}
 use mathlib.Core.Bool.{Bool, true, false}
 use mathlib.Core.List.{flat_map, List, [], ◌∷◌}
@@ -13,11 +15,9 @@ use Rattle.records.specs.Layout.{fields_in}
 use Rattle.records.specs.Take.{taken_outcome, taken_at}
 use Rattle.records.specs.declared.Record.{Record}
 use Rattle.records.specs.declared.Shape.{Shape}
-use Rattle.records.specs.declared.Taken.{Taken}
-use Rattle.rules.specs.Inner.{is_kept, held_to, call_rules_in, scaled_call_rules_in, AllKept}
+use Rattle.rules.specs.Inner.{held_to, call_rules_in, scaled_call_rules_in, AllKept}
 use Rattle.rules.specs.Rules.{Rule, head_rules, opening_rules, cell_rules}
 use Rattle.rules.specs.declared.Opening.{Opening}
-use Rattle.rules.specs.declared.Verdict.{Verdict}
 use Rattle.key.specs.Check.{checked_key}
 use Rattle.key.specs.Inner.{rules_seen, opens_or_ends, seen_in, passed, verdict_on, Here, Only, Fails}
 use Rattle.key.specs.Reading.{is_end}
@@ -75,7 +75,7 @@ module _ (key starts : List ℕ) (seen : Seen) (at : ℕ) where
       NoCall key starts seen.scaled seen.array seen.arrays at → Only opens_or_ends key starts seen at
   only-opens heads cells calls = go
     where
-      go : (item : Record) (next : ℕ) → taken_at key at ≡ taken_outcome (Taken.Record item next) →
+      go : (item : Record) (next : ℕ) → taken_at key at ≡ taken_outcome (Ok (item, next)) →
           AllKept (rules_seen seen key starts item) → opens_or_ends item ≡ true
       go (Record.Head shape) next taken kept = absurd (heads.0 shape next taken kept)
       go (Record.Sparse shape) next taken kept = refl
@@ -116,7 +116,7 @@ module _ (key : List ℕ) (seen : Seen) (at : ℕ) where
   pub only-ends : (starts : List ℕ) → Only opens_or_ends key starts seen at → NoneOpens → Only is_end key starts seen at
   only-ends starts only none = go
     where
-      go : (item : Record) (next : ℕ) → taken_at key at ≡ taken_outcome (Taken.Record item next) →
+      go : (item : Record) (next : ℕ) → taken_at key at ≡ taken_outcome (Ok (item, next)) →
           AllKept (rules_seen seen key starts item) → is_end item ≡ true
       go (Record.Head shape) next taken kept = only (Record.Head shape) next taken kept
       go (Record.Sparse shape) next taken kept = absurd (none.0 shape next taken kept)
@@ -136,7 +136,7 @@ module _ (key : List ℕ) (seen : Seen) (at : ℕ) where
       (fails-short key Record.Sparse rules at 3 (λ x. refl) short, fails-short key Record.Recursive rules at 3 (λ x. refl) short)
 
   pub opening-broken : (shape : Shape) → shape_fields shape ≡ fields_in (1 ∷ 1 ∷ []) (drop (at + 1) key) →
-      is_kept (held_to Verdict.Kept at (rules shape)) ≡ false → NoneOpens
+      is_ok (held_to (Ok tt) at (rules shape)) ≡ false → NoneOpens
   opening-broken shape fields broken = (
     fails-broken key Record.Sparse rules at 2 (λ x. refl) shape_of (λ x. refl) shape fields broken,
     fails-broken key Record.Recursive rules at 3 (λ x. refl) shape_of (λ x. refl) shape fields broken,
@@ -148,14 +148,14 @@ module _ (key : List ℕ) (seen : Seen) (at : ℕ) where
 -- by `Here`); and where it stops before an entry of its kind, what the judge finds of that entry is check's refusal.
 pub record RefusedAt (key starts : List ℕ) (seen : Seen) (at next : ℕ) (item : Record) : Type 0 where
   pub refusal : Refusal
-  pub found : verdict_on seen key starts at next item ≡ Verdict.Refused refusal
+  pub found : verdict_on seen key starts at next item ≡ Err refusal
   pub answered : checked_key key ≡ refusal_of refusal
 
 pub run-stopped : {A : Type 0} (key starts : List ℕ) (seen : Seen) (at : ℕ) (item : A → Record) → Here key starts seen at →
     Fails key item (λ (x : A). rules_seen seen key starts (item x)) at → (x : A) (next : ℕ) →
-    taken_at key at ≡ taken_outcome (Taken.Record (item x) next) → RefusedAt key starts seen at next (item x)
+    taken_at key at ≡ taken_outcome (Ok ((item x), next)) → RefusedAt key starts seen at next (item x)
 run-stopped key starts seen at item H fails x next taken = go (verdict_on seen key starts at next (item x)) refl
   where
-    go : (v : Verdict) → verdict_on seen key starts at next (item x) ≡ v → RefusedAt key starts seen at next (item x)
-    go (Verdict.Refused f) e = record { refusal = f; found = e; answered = breaks H (item x) next taken f e }
-    go Verdict.Kept e = absurd (fails x next taken (rules-kept seen key starts at next (item x) e))
+    go : (v : Result (Unit {0}) Refusal) → verdict_on seen key starts at next (item x) ≡ v → RefusedAt key starts seen at next (item x)
+    go (Err f) e = record { refusal = f; found = e; answered = breaks H (item x) next taken f e }
+    go (Ok _) e = absurd (fails x next taken (rules-kept seen key starts at next (item x) e))

@@ -1,19 +1,18 @@
 -- What check answers for a key (01, 'An accepted key' and 'Order'; 02, E9). The records before are all that a judgement of a record
 -- goes by.
-use Rattle.std.specs.Prelude.{ℕ, ◌-◌, cond, List, [], ◌∷◌, ◌++◌, ltb, eqb, length}
-use Rattle.refusal.specs.Outcome.{Outcome, given, refused, refuse, refusal_of}
+use Rattle.std.specs.Prelude.{Result, ℕ, ◌-◌, cond, List, [], ◌∷◌, ◌++◌, ltb, eqb, length}
+use Rattle.refusal.specs.Outcome.{Outcome, given, refused, refuse, outcome}
 use Rattle.refusal.specs.declared.Reason.{Reason}
+use Rattle.refusal.specs.declared.Refusal.{Refusal}
 use Rattle.records.specs.declared.Record.{Record}
 use Rattle.rules.specs.Rules.{Rule, head_rules, opening_rules, cell_rules, call_rules, scaled_call_rules, end_rules, after_rules}
 use Rattle.key.specs.Before.{opened, opening_at, open_now, head_of, is_scaled, count_of, call_count}
 use Rattle.key.specs.Reading.{Located, Reading, ended, stopped, located, is_end, reading_of}
-use Rattle.key.specs.declared.Checked.{Checked}
 use Rattle.key.specs.declared.Counts.{Counts}
 
--- what each case of the answer says: the counts of an accepted key, with n and n'
-abbrev pub checked_outcome : Checked → Outcome Counts
-checked_outcome (Checked.Accepted counts) = given counts
-checked_outcome (Checked.Refused f) = refusal_of f
+-- what is answered: the counts of an accepted key, with n and n'
+abbrev pub checked_outcome : Result Counts Refusal → Outcome Counts
+checked_outcome = outcome
 
 -- the first of some rules that is broken refuses, at a place; where all are kept, `rest` answers
 unfoldable pub first_broken : {A : Type 0} → ℕ → List Rule → Outcome A → Outcome A

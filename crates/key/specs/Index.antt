@@ -1,11 +1,11 @@
 -- Where a key's arrays begin, and what the index leaves in its table.
+use Rattle.std.specs.Prelude.{Ok}
 use Rattle.std.specs.Prelude.{ℕ, ◌+◌, ◌-◌, ◌<◌, ◌≡◌, length, get_or, take}
 use mathlib.Core.List.{List, [], ◌∷◌, ◌++◌, map, flat_map}
 use Rattle.refusal.specs.Outcome.{given}
 use Rattle.records.specs.Kinds.{encoded}
 use Rattle.records.specs.Take.{taken_outcome, taken_at}
 use Rattle.records.specs.declared.Record.{Record}
-use Rattle.records.specs.declared.Taken.{Taken}
 use Rattle.arrays.specs.Arrays.{Array, array_at}
 use Rattle.key.specs.Before.{opening_in}
 use Rattle.key.specs.Check.{checked_key}
@@ -32,7 +32,7 @@ Indexing key table = (counts : Counts) → checked_key key ≡ given counts → 
 abbrev pub Runs : List ℕ → ℕ → List Record → ℕ → Type 0
 Runs key from [] to = from ≡ to
 Runs key from (r ∷ records) to =
-    (taken_at key from ≡ taken_outcome (Taken.Record r (from + length (encoded r)))) ×
+    (taken_at key from ≡ taken_outcome (Ok (r, (from + length (encoded r))))) ×
     Runs key (from + length (encoded r)) records to
 
 -- The offsets index the arrays of a key: array i's opening is taken at the offset numbered i, and its entries run from there
@@ -41,4 +41,4 @@ pub record Indexes (key starts : List ℕ) (arrays : List Array) : Type 0 where
   pub one_each : length starts ≡ length arrays
   pub runs : (i : ℕ) → i < length arrays →
       Runs key (get_or starts i 0) (array_records (key_scaled key) (array_at arrays i)) (get_or (starts ++ ((length key - 1) ∷ [])) (i + 1) 0)
-  pub end : taken_at key (length key - 1) ≡ taken_outcome (Taken.Record Record.End (length key))
+  pub end : taken_at key (length key - 1) ≡ taken_outcome (Ok (Record.End, (length key)))

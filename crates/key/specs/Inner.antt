@@ -1,15 +1,15 @@
 -- What the contracts of inner functions cite: it mirrors the code. No public promise rests on it.
+use Rattle.refusal.specs.declared.Refusal.{Refusal}
+use Rattle.std.specs.Prelude.{Result, Ok}
 use Rattle.std.specs.Prelude.{ℕ, min, ◌+◌, ◌*◌, ◌/◌, ◌≤◌, ◌<◌, Bool, true, false, ◌||◌, List, ◌++◌, map, ◌≡◌, eqb, length, get_or, take}
 use Rattle.records.specs.Kinds.{kind_of, encoded}
 use Rattle.records.specs.Take.{taken_outcome, taken_at}
 use Rattle.records.specs.declared.Record.{Record}
 use Rattle.records.specs.declared.Shape.{Shape}
-use Rattle.records.specs.declared.Taken.{Taken}
 use Rattle.arrays.specs.WellFormed.{Each}
 use Rattle.rules.specs.Inner.{held_to, AllKept, shape_read, Narrow, call_rules_in, scaled_call_rules_in}
 use Rattle.rules.specs.Rules.{Rule, head_rules, opening_rules, cell_rules, end_rules}
 use Rattle.rules.specs.declared.Opening.{Opening}
-use Rattle.rules.specs.declared.Verdict.{Verdict}
 use Rattle.key.specs.Before.{opened, opening_at, open_now, head_of, is_scaled, count_of, call_count}
 use Rattle.key.specs.Check.{rules_behind, judged, checked_key}
 use Rattle.key.specs.Index.{Runs, starts_in}
@@ -40,9 +40,9 @@ rules_seen seen key starts (Record.ScaledCall call) =
     scaled_call_rules_in key starts seen.scaled seen.array seen.arrays call
 
 -- the verdict on a record whose bytes are those from `at` to `next`
-abbrev pub verdict_on : Seen → List ℕ → List ℕ → ℕ → ℕ → Record → Verdict
+abbrev pub verdict_on : Seen → List ℕ → List ℕ → ℕ → ℕ → Record → (Result (Unit {0}) Refusal)
 verdict_on seen key starts at next item =
-    held_to (held_to Verdict.Kept at (rules_seen seen key starts item)) next (rules_behind item next (length key))
+    held_to (held_to (Ok tt) at (rules_seen seen key starts item)) next (rules_behind item next (length key))
 
 -- does a record open an array or end the key?
 abbrev pub opens_or_ends : Record → Bool
@@ -144,19 +144,19 @@ pub record Here (key starts : List ℕ) (seen : Seen) (at : ℕ) : Type 0 where
 -- of the records that may stand at an offset of a key only those of some kinds can keep their rules
 abbrev pub Only : (Record → Bool) → List ℕ → List ℕ → Seen → ℕ → Type 0
 Only kinds key starts seen at =
-    (item : Record) (next : ℕ) → taken_at key at ≡ taken_outcome (Taken.Record item next) →
+    (item : Record) (next : ℕ) → taken_at key at ≡ taken_outcome (Ok (item, next)) →
     AllKept (rules_seen seen key starts item) → kinds item ≡ true
 
 -- at an offset of a key stands an entry of a kind that keeps its rules
 pub record Passes {A : Type 0} (key : List ℕ) (item : A → Record) (rules : A → List Rule) (at : ℕ) : Type 0 where
   pub entry : A
-  pub taken : taken_at key at ≡ taken_outcome (Taken.Record (item entry) (at + length (encoded (item entry))))
+  pub taken : taken_at key at ≡ taken_outcome (Ok ((item entry), (at + length (encoded (item entry)))))
   pub kept : AllKept (rules entry)
 
 -- at an offset of a key stands no entry of a kind that keeps its rules
 abbrev pub Fails : {A : Type 0} → List ℕ → (A → Record) → (A → List Rule) → ℕ → Type 0
 Fails {A = A} key item rules at =
-    (entry : A) (next : ℕ) → taken_at key at ≡ taken_outcome (Taken.Record (item entry) next) → AllKept (rules entry) → ⊥
+    (entry : A) (next : ℕ) → taken_at key at ≡ taken_outcome (Ok ((item entry), next)) → AllKept (rules entry) → ⊥
 
 -- what an answer says of the entry at an offset
 abbrev pub Tried : {A : Type 0} → Bool → List ℕ → (A → Record) → (A → List Rule) → ℕ → Type 0

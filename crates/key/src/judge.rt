@@ -5,7 +5,7 @@ ghost use Rattle.key.specs.Inner.{verdict_on};
 
 use crate::seen::Seen;
 use records::Record;
-use rules::Verdict;
+use refusal::Refusal;
 
 // The verdict on a record, by what was seen before it and the offsets of the arrays so far. Its bytes are those from `at` to
 // `next`. Inner: the offsets are noted, and the array that is open has at most 30 bits a side.
@@ -16,7 +16,7 @@ pub(crate) fn record(
     at: usize,
     next: usize,
     item: Record,
-) -> Verdict
+) -> Result<(), Refusal>
     requires noted { Noted key.now starts.now seen.arrays }
     requires narrow { Narrow seen.array.shape }
     ensures { result ≡ verdict_on seen key.now starts.now at next item }

@@ -7,15 +7,10 @@ mod seen;
 mod table;
 
 ghost use Rattle.std.specs.Prelude.{◌≡◌, min, ◌/◌, ◌≤◌, length};
-ghost use Rattle.refusal.specs.Outcome.{refuse, refusal_of};
-ghost use Rattle.refusal.specs.declared.Refusal.{Refusal};
-ghost use Rattle.records.specs.declared.Taken.{Taken};
 ghost use Rattle.key.specs.Check.{checked_outcome, checked_key};
 ghost use Rattle.key.specs.Index.{Indexing};
 
-use records::Taken;
 use refusal::{Reason, Refusal};
-use rules::Verdict;
 
 // The counts of an accepted key over its records, and the head's row bits and column bits.
 #[derive(Clone, Copy)]
@@ -25,15 +20,6 @@ pub struct Counts {
     pub calls: usize,
     pub rows: u8,
     pub columns: u8,
-}
-
-// What checking a key answers.
-#[derive(Clone, Copy)]
-pub enum Checked {
-    // The key is accepted.
-    Accepted(Counts),
-    // A record cannot be taken or breaks a rule, or the key is too long.
-    Refused(Refusal),
 }
 
 // How many arrays an accepted key has at most.
@@ -46,7 +32,7 @@ pub const SHORT: usize = 192;
 pub const SHORT_ARRAYS: usize = 64;
 
 // Whether bytes are an accepted key: its counts, or the first fault with its place.
-pub fn check(key: &[u8]) -> Checked
+pub fn check(key: &[u8]) -> Result<Counts, Refusal>
     ensures answer { checked_outcome result ≡ checked_key key.now }
 {
     if key.len() < SHORT {
@@ -63,44 +49,18 @@ pub fn check(key: &[u8]) -> Checked
 //
 // The functions of `run` go over the records that keep their rules. Where they stop, only an end can keep its own: that record is taken
 // and judged here.
-pub fn index(key: &[u8], starts: &mut [u16]) -> Checked
+pub fn index(key: &[u8], starts: &mut [u16]) -> Result<Counts, Refusal>
     requires { min 1024 (length key.now / 3) ≤ length starts.old }
     ensures answer { checked_outcome result ≡ checked_key key.now }
     ensures starts { Indexing key.now starts.new }
 {
     if 65536 < key.len() {
-        return refused(Reason::KeyTooLong, 65536);
+        return Err(Refusal::new(Reason::KeyTooLong, 65536));
     }
     let begun = run::head(key);
     let reached = run::arrays(key, starts, begun.seen, begun.at);
     let at = reached.at;
-    let taken = records::take(key, at);
-    let Taken::Record(item, next) = taken else {
-        return not_taken(taken);
-    };
-    let verdict = judge::record(reached.seen, key, starts, at, next, item);
-    match verdict {
-        Verdict::Refused(refusal) => Checked::Refused(refusal),
-        Verdict::Kept => Checked::Accepted(seen::counts(reached.seen)),
-    }
-}
-
-// The refusal for a reason at a place. Inner: it requires nothing.
-pub fn refused(reason: Reason, place: usize) -> Checked
-    ensures { checked_outcome result ≡ refuse reason place }
-{
-    Checked::Refused(Refusal {
-        reason: reason,
-        place: place,
-    })
-}
-
-// The refusal to take a record. Of a record nothing is promised, since it is never called with one.
-fn not_taken(taken: Taken) -> Checked
-    ensures { (f : Refusal) → taken ≡ Taken.Refused f → checked_outcome result ≡ refusal_of f }
-{
-    match taken {
-        Taken::Refused(refusal) => Checked::Refused(refusal),
-        Taken::Record(_, next) => refused(Reason::RecordIncomplete, next),
-    }
+    let (item, next) = records::take(key, at)?;
+    judge::record(reached.seen, key, starts, at, next, item)?;
+    Ok(seen::counts(reached.seen))
 }

@@ -39,8 +39,7 @@ pub(crate) fn head(key: &[u8]) -> Reached
         return nothing;
     }
     let shape = read::shape(key, 1);
-    let verdict = rules::head(true, shape, 0);
-    if !verdict.kept() {
+    if rules::head(true, shape, 0).is_err() {
         return nothing;
     }
     Reached {
@@ -68,8 +67,7 @@ pub(crate) fn arrays(key: &[u8], starts: &mut [u16], seen: Seen, from: usize) ->
             return Reached { seen: s, at: at };
         }
         let shape = read::shape(key, at + 1);
-        let verdict = rules::array_opening(s.first, s.head, s.arrays, shape, at);
-        if !verdict.kept() {
+        if rules::array_opening(s.first, s.head, s.arrays, shape, at).is_err() {
             return Reached { seen: s, at: at };
         }
         let behind = array(key, starts, s, at, kind, shape);
@@ -198,8 +196,7 @@ fn cell_kept(key: &[u8], array: Opening, at: usize) -> bool
         return false;
     }
     let c = read::cell(key, at + 1);
-    let verdict = rules::cell(array, c, at);
-    verdict.kept()
+    rules::cell(array, c, at).is_ok()
 }
 
 // Whether a call of edition 1 stands at an offset and keeps its rules. Inner: there are bytes for one; otherwise as for `calls`.
@@ -213,8 +210,7 @@ fn call_kept(key: &[u8], starts: &[u16], array: Opening, arrays: usize, at: usiz
         return false;
     }
     let c = read::call(key, at + 1);
-    let verdict = rules::call(key, starts, false, array, arrays, c, at);
-    verdict.kept()
+    rules::call(key, starts, false, array, arrays, c, at).is_ok()
 }
 
 // The same of a call of edition 2.
@@ -228,6 +224,5 @@ fn scaled_call_kept(key: &[u8], starts: &[u16], array: Opening, arrays: usize, a
         return false;
     }
     let c = read::scaled_call(key, at + 1);
-    let verdict = rules::scaled_call(key, starts, true, array, arrays, c, at);
-    verdict.kept()
+    rules::scaled_call(key, starts, true, array, arrays, c, at).is_ok()
 }

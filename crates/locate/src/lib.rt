@@ -9,11 +9,12 @@ ghost use Rattle.field.specs.Scalars.{prime};
 ghost use Rattle.comparison.specs.Compare.{different, compared};
 ghost use Rattle.location.specs.Cell.{Certain};
 ghost use Rattle.location.specs.Locate.{cell_found, located};
-ghost use Rattle.locate.specs.Answer.{located_answer};
+ghost use Rattle.locate.specs.Answer.{cell_answer, located_answer};
 
-use compare::Compared;
+use compare::Likeness;
 use evaluate::Values;
-use refusal::{Refusal, Which};
+use field::Fp;
+use refusal::PairRefusal;
 
 // A cell in which two keys differ.
 #[derive(Clone, Copy)]
@@ -21,23 +22,13 @@ pub struct Cell {
     pub row: u32,
     pub column: u32,
     // The first key's dense A, B and C there, which are zero beyond its own shape.
-    pub first: Values,
+    pub first: Values<Fp>,
     // The second key's likewise.
-    pub second: Values,
+    pub second: Values<Fp>,
 }
 
-// What locate answers.
-#[derive(Clone, Copy)]
-pub enum Located {
-    // The keys are the same at the point.
-    Same,
-    // They are not, and they differ in this cell.
-    Differs(Cell),
-    // A key, the point or the sheet is at fault, and nothing is written.
-    Refused(Which, Refusal),
-}
-
-// A cell in which two keys differ, where compare says at the point that they do; it says "same" and refuses where compare does. The way to
+// A cell in which two keys differ, where compare says at the point that they do; none where it says "same", and the refusal where it
+// refuses. The way to
 // the cell is that of `settled`, which asks compare once for each coordinate; then each key is evaluated at the cell. The sheet is then as
 // after compare at the point whose coordinates are the bits of the row and of the column, or as compare leaves it where no cell is answered.
 // `certain` says that the keys' dense matrices differ in the answered cell, and so do the answered values.
@@ -47,19 +38,19 @@ pub fn locate(
     rows: &[u32],
     columns: &[u32],
     sheet: &mut [u32],
-) -> Located
+) -> Result<Option<Cell>, PairRefusal>
     ensures answer { located_answer result ≡
         (located first.now second.now rows.now columns.now sheet.old).answer }
     ensures sheet { sheet.new ≡
         (located first.now second.now rows.now columns.now sheet.old).sheet }
     ensures certain { Certain first.now second.now (located_answer result) }
 {
-    match compare::compare(&*first, &*second, &*rows, &*columns, sheet) {
-        Compared::Refused(which, refusal) => Located::Refused(which, refusal),
-        Compared::Same(_) => Located::Same,
-        Compared::Different(_) => {
+    let compared = compare::compare(&*first, &*second, &*rows, &*columns, sheet)?;
+    match compared.likeness {
+        Likeness::Same => Ok(None),
+        Likeness::Different => {
             let mut point = [0u32; 60];
-            differing(first, second, rows, columns, &mut point, sheet)
+            Ok(Some(differing(first, second, rows, columns, &mut point, sheet)))
         }
     }
 }
@@ -73,10 +64,10 @@ fn differing(
     columns: &[u32],
     point: &mut [u32],
     sheet: &mut [u32],
-) -> Located
+) -> Cell
     requires sheet_value { (compared prime first.now second.now rows.now columns.now sheet.old).answer ≡ different }
     requires in_bounds { 60 ≤ length point.old }
-    ensures answer { located_answer result ≡
+    ensures answer { cell_answer result ≡
         (cell_found first.now second.now rows.now columns.now sheet.old).answer }
     ensures sheet { sheet.new ≡
         (cell_found first.now second.now rows.now columns.now sheet.old).sheet }

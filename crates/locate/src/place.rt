@@ -9,12 +9,13 @@ ghost use Rattle.comparison.specs.Inner.{Serves};
 ghost use Rattle.evaluate.specs.Answer.{values_in, evaluated_outcome};
 ghost use Rattle.location.specs.Inner.{Comparable, Readable, zeros, held_at};
 ghost use Rattle.location.specs.Locate.{from_bits, last_dense_values, cell_at};
-ghost use Rattle.locate.specs.Answer.{located_answer};
+ghost use Rattle.locate.specs.Answer.{cell_answer};
 
-use crate::{Cell, Located};
-use evaluate::{Evaluated, Values};
+use crate::Cell;
+use evaluate::{Counted, Values};
 use field::Fp;
-use key::{Checked, Counts};
+use key::Counts;
+use refusal::Refusal;
 
 // The cell at a point of bits, of which the first `row_bits` are those of the row. The sheet is as after compare there. Inner: the keys can
 // be compared there on the sheet.
@@ -24,9 +25,9 @@ pub(crate) fn cell(
     row_bits: usize,
     point: &[u32],
     sheet: &mut [u32],
-) -> Located
+) -> Cell
     requires { Comparable first.now second.now row_bits point.now (length sheet.old) × Below 2 point.now }
-    ensures answer { located_answer result ≡
+    ensures answer { cell_answer result ≡
         (cell_at first.now second.now (take row_bits point.now) (drop row_bits point.now)
         sheet.old).answer }
     ensures sheet { sheet.new ≡
@@ -37,29 +38,25 @@ pub(crate) fn cell(
 }
 
 // The same, for the bits of a row and of a column. Inner: the keys can be compared there on the sheet, and so both are accepted.
-fn at(first: &[u8], second: &[u8], rows: &[u32], columns: &[u32], sheet: &mut [u32]) -> Located
+fn at(first: &[u8], second: &[u8], rows: &[u32], columns: &[u32], sheet: &mut [u32]) -> Cell
     requires { Readable first.now second.now rows.now columns.now (length sheet.old) }
-    ensures answer { located_answer result ≡
+    ensures answer { cell_answer result ≡
         (cell_at first.now second.now rows.now columns.now sheet.old).answer }
     ensures sheet { sheet.new ≡
         (cell_at first.now second.now rows.now columns.now sheet.old).sheet }
 {
-    let Checked::Accepted(one) = key::check(&*first) else {
-        return Located::Same;
-    };
-    let Checked::Accepted(other) = key::check(&*second) else {
-        return Located::Same;
-    };
+    let one = key::check(&*first).unwrap();
+    let other = key::check(&*second).unwrap();
     let row = number(rows);
     let column = number(columns);
     let in_first = dense(first, one, &*rows, &*columns, sheet);
     let in_second = dense(second, other, rows, columns, sheet);
-    Located::Differs(Cell {
-        row: row,
-        column: column,
+    Cell {
+        row,
+        column,
         first: in_first,
         second: in_second,
-    })
+    }
 }
 
 // The number that has these bits, lowest first. Inner: they are bits, and at most 30.
@@ -78,7 +75,7 @@ fn number(bits: &[u32]) -> u32
 
 // A key's dense A, B and C at the bits of a row and of a column, which are zero beyond its shape. The sheet is as after evaluate at those
 // bits that the key uses. Inner: the key is accepted with these counts, and it can be evaluated there on the sheet.
-fn dense(key: &[u8], own: Counts, rows: &[u32], columns: &[u32], sheet: &mut [u32]) -> Values
+fn dense(key: &[u8], own: Counts, rows: &[u32], columns: &[u32], sheet: &mut [u32]) -> Values<Fp>
     requires key_value { checked_key key.now ≡ given own }
     requires serves { Serves prime own rows.now columns.now (length sheet.old) }
     requires below { Below 2 rows.now × Below 2 columns.now }
@@ -95,7 +92,7 @@ fn dense(key: &[u8], own: Counts, rows: &[u32], columns: &[u32], sheet: &mut [u3
 }
 
 // What a key of these counts holds at a row and a column, by what evaluate answers at their bits: zeros beyond its shape.
-fn held(own: Counts, row: u32, column: u32, evaluated: Evaluated) -> Values
+fn held(own: Counts, row: u32, column: u32, evaluated: Result<Counted<Fp>, Refusal>) -> Values<Fp>
     ensures { values_in result ≡ held_at own row column (evaluated_outcome evaluated) }
 {
     if rules::outside(own.rows, row) {
@@ -105,13 +102,13 @@ fn held(own: Counts, row: u32, column: u32, evaluated: Evaluated) -> Values
         return zeros();
     }
     match evaluated {
-        Evaluated::Values(values, _) => values,
-        Evaluated::Refused(_) => zeros(),
+        Ok(counted) => counted.values,
+        Err(_) => zeros(),
     }
 }
 
 // Zero for A, B and C.
-fn zeros() -> Values
+fn zeros() -> Values<Fp>
     ensures { values_in result ≡ zeros }
 {
     Values {

@@ -6,7 +6,7 @@ ghost use Rattle.comparison.specs.Compare.{compared};
 ghost use Rattle.location.specs.Inner.{Comparable, WrittenOver};
 ghost use Rattle.location.specs.Locate.{bit_for, settled, same_at};
 
-use compare::Compared;
+use compare::Likeness;
 
 // Sets each coordinate of a point to a bit, from the first up: to 0 where the keys differ with that, else to 1. The first `row_bits` of
 // them are the rows'. Inner: the keys can be compared at the point on the sheet.
@@ -40,9 +40,11 @@ fn bit_for(first: &[u8], second: &[u8], row_bits: usize, point: &[u32], sheet: &
         (drop row_bits point.now) sheet.old).sheet }
 {
     match compare::compare(first, second, &point[..row_bits], &point[row_bits..], sheet) {
-        Compared::Same(_) => 1,
-        Compared::Different(_) => 0,
-        Compared::Refused(_, _) => 0,
+        Ok(compared) => match compared.likeness {
+            Likeness::Same => 1,
+            Likeness::Different => 0,
+        },
+        Err(_) => 0,
     }
 }
 

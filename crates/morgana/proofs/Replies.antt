@@ -1,7 +1,11 @@
 -- What a reply tells: no other answer has it, `same` is 1 exactly where compare's answer is "same", and the factors keep to their limit.
+use Rattle.refusal.specs.declared.PairRefusal.{PairRefusal}
+use Rattle.key.specs.declared.Counts.{Counts}
+use Rattle.compare.specs.declared.Likeness.{Likeness}
+use Rattle.std.specs.Prelude.{Option, Some, None, Result, Ok, Err}
 use Prim.Native.Nat.{ℕ, ◌≤◌}
 use mathlib.Core.List.{List, [], ◌∷◌}
-use mathlib.Core.Path.{◌≡◌, refl, sym, ap, ap₂}
+use mathlib.Core.Path.{◌≡◌, refl, sym, ap, ◌∙◌}
 use native.Mathlib.Omega.{arith}
 use lib.Dec.{eqb}
 use Rattle.refusal.specs.Number.{number_of}
@@ -9,25 +13,25 @@ use Rattle.refusal.specs.Outcome.{given}
 use Rattle.refusal.specs.declared.Refusal.{Refusal}
 use Rattle.refusal.specs.declared.Which.{Which}
 use Rattle.refusal.proofs.Numbers.{number-injective, number-some}
+use Rattle.refusal.proofs.Outcomes.{ok-injective}
 use Rattle.key.specs.Check.{checked_outcome}
-use Rattle.key.specs.declared.Checked.{Checked}
+use Rattle.field.specs.declared.fp.Fp.{Fp}
+use Rattle.field.proofs.EqualElements.{fp-equal}
+use Rattle.quadratic.specs.declared.Fp2.{Fp2}
 use Rattle.evaluate.specs.Answer.{evaluated_outcome}
-use Rattle.evaluate.specs.declared.Evaluated.{Evaluated}
+use Rattle.evaluate.specs.declared.Counted.{Counted}
 use Rattle.evaluate.specs.declared.Values.{Values}
 use Rattle.evaluate.proofs.Answers.{evaluated-injective}
 use Rattle.comparison.specs.AgreementBound.{is_same}
 use Rattle.comparison.specs.Compare.{Answer, same, different, refused_for, BothLimited}
-use Rattle.compare.specs.Answer.{compared_answer, compared_factors}
+use Rattle.compare.specs.Answer.{likeness_answer, compared_answer, compared_factors}
 use Rattle.compare.specs.declared.Compared.{Compared}
 use Rattle.evaluate_quadratic.specs.Answer.{evaluated_outcome as quadratic_outcome}
-use Rattle.evaluate_quadratic.specs.declared.Evaluated.{Evaluated as Quadratic}
 use Rattle.evaluate_quadratic.proofs.Answers.{evaluated-injective as quadratic-injective}
 use Rattle.locate.specs.Answer.{located_answer}
-use Rattle.locate.specs.declared.Located.{Located}
+use Rattle.locate.specs.declared.Cell.{Cell}
 use Rattle.price.specs.Price.{priced_outcome}
-use Rattle.price.specs.declared.Priced.{Priced}
 use Rattle.editions.specs.Move.{copied_outcome}
-use Rattle.editions.specs.declared.Copied.{Copied}
 use Rattle.morgana.specs.Reply.{check_reply, evaluate_reply, quadratic_reply, key_number, compare_reply, shorter_reply, locate_reply, price_reply, move_reply}
 use Rattle.morgana.specs.declared.CheckReply.{CheckReply}
 use Rattle.morgana.specs.declared.CompareReply.{CompareReply}
@@ -44,28 +48,34 @@ refusal-told f g numbers places =
     let reasons = number-injective f.reason g.reason numbers in
     λ i. record { reason = reasons i; place = places i }
 
-pub check-told : (r s : Checked) → check_reply (checked_outcome r) ≡ check_reply (checked_outcome s) → r ≡ s
-check-told (Checked.Accepted c) (Checked.Accepted d) e =
-    λ i.
-    Checked.Accepted
-    (record {
+-- Results that have one reply are one, where a reply tells their values apart: its number is 0 where nothing is refused, and where something
+-- is, the refusal's.
+module _ {A R : Type 0} (reply : Result A Refusal → R) (number place : R → ℕ) (given-number : (a : A) → number (reply (Ok a)) ≡ 0)
+    (refused-number : (f : Refusal) → number (reply (Err f)) ≡ number_of f.reason)
+    (refused-place : (f : Refusal) → place (reply (Err f)) ≡ f.place) (apart : (a b : A) → reply (Ok a) ≡ reply (Ok b) → a ≡ b) where
+  result-told : (r s : Result A Refusal) → reply r ≡ reply s → r ≡ s
+  result-told (Ok a) (Ok b) e = ap Ok (apart a b e)
+  result-told (Ok a) (Err g) e = absurd (number-some g.reason (sym (refused-number g) ∙ sym (ap number e) ∙ given-number a))
+  result-told (Err f) (Ok b) e = absurd (number-some f.reason (sym (refused-number f) ∙ ap number e ∙ given-number b))
+  result-told (Err f) (Err g) e =
+      ap Err (refusal-told f g (sym (refused-number f) ∙ ap number e ∙ refused-number g)
+      (sym (refused-place f) ∙ ap place e ∙ refused-place g))
+
+pub check-told : (r s : Result Counts Refusal) → check_reply (checked_outcome r) ≡ check_reply (checked_outcome s) → r ≡ s
+check-told =
+    result-told (λ r. check_reply (checked_outcome r)) (λ x. x.number) (λ x. x.place) (λ a. refl) (λ f. refl) (λ f. refl) (λ a b e i.
+    record {
       arrays = ap (λ (x : CheckReply). x.arrays) e i;
       cells = ap (λ (x : CheckReply). x.cells) e i;
       calls = ap (λ (x : CheckReply). x.calls) e i;
       rows = ap (λ (x : CheckReply). x.rows) e i;
       columns = ap (λ (x : CheckReply). x.columns) e i;
     })
-check-told (Checked.Accepted c) (Checked.Refused g) e =
-    absurd (number-some g.reason (sym (ap (λ (x : CheckReply). x.number) e)))
-check-told (Checked.Refused f) (Checked.Accepted d) e =
-    absurd (number-some f.reason (ap (λ (x : CheckReply). x.number) e))
-check-told (Checked.Refused f) (Checked.Refused g) e =
-    ap Checked.Refused (refusal-told f g (ap (λ (x : CheckReply). x.number) e) (ap (λ (x : CheckReply). x.place) e))
 
-pub evaluate-told : (r s : Evaluated) → evaluate_reply (evaluated_outcome r) ≡ evaluate_reply (evaluated_outcome s) → r ≡ s
-evaluate-told (Evaluated.Values v m) (Evaluated.Values w n) e =
-    evaluated-injective (Evaluated.Values v m) (Evaluated.Values w n)
-    (λ i.
+pub evaluate-told : (r s : Result (Counted Fp) Refusal) → evaluate_reply (evaluated_outcome r) ≡ evaluate_reply (evaluated_outcome s) → r ≡ s
+evaluate-told =
+    result-told (λ r. evaluate_reply (evaluated_outcome r)) (λ x. x.number) (λ x. x.place) (λ a. refl) (λ f. refl) (λ f. refl) (λ a b e.
+    ok-injective (evaluated-injective (Ok a) (Ok b) (λ i.
     given
     (record {
       values = record {
@@ -74,18 +84,12 @@ evaluate-told (Evaluated.Values v m) (Evaluated.Values w n) e =
         c = ap (λ (x : EvaluateReply). x.c) e i;
       };
       factors = ap (λ (x : EvaluateReply). x.factors) e i;
-    }))
-evaluate-told (Evaluated.Values v m) (Evaluated.Refused g) e =
-    absurd (number-some g.reason (sym (ap (λ (x : EvaluateReply). x.number) e)))
-evaluate-told (Evaluated.Refused f) (Evaluated.Values w n) e =
-    absurd (number-some f.reason (ap (λ (x : EvaluateReply). x.number) e))
-evaluate-told (Evaluated.Refused f) (Evaluated.Refused g) e =
-    ap Evaluated.Refused (refusal-told f g (ap (λ (x : EvaluateReply). x.number) e) (ap (λ (x : EvaluateReply). x.place) e))
+    }))))
 
-pub quadratic-told : (r s : Quadratic) → quadratic_reply (quadratic_outcome r) ≡ quadratic_reply (quadratic_outcome s) → r ≡ s
-quadratic-told (Quadratic.Values v m) (Quadratic.Values w n) e =
-    quadratic-injective (Quadratic.Values v m) (Quadratic.Values w n)
-    (λ i.
+pub quadratic-told : (r s : Result (Counted Fp2) Refusal) → quadratic_reply (quadratic_outcome r) ≡ quadratic_reply (quadratic_outcome s) → r ≡ s
+quadratic-told =
+    result-told (λ r. quadratic_reply (quadratic_outcome r)) (λ x. x.number) (λ x. x.place) (λ a. refl) (λ f. refl) (λ f. refl) (λ a b e.
+    ok-injective (quadratic-injective (Ok a) (Ok b) (λ i.
     given
     (record {
       values = record {
@@ -94,31 +98,17 @@ quadratic-told (Quadratic.Values v m) (Quadratic.Values w n) e =
         c = record { u = ap (λ (x : QuadraticReply). x.c_u) e i; v = ap (λ (x : QuadraticReply). x.c_v) e i };
       };
       factors = ap (λ (x : QuadraticReply). x.factors) e i;
-    }))
-quadratic-told (Quadratic.Values v m) (Quadratic.Refused g) e =
-    absurd (number-some g.reason (sym (ap (λ (x : QuadraticReply). x.number) e)))
-quadratic-told (Quadratic.Refused f) (Quadratic.Values w n) e =
-    absurd (number-some f.reason (ap (λ (x : QuadraticReply). x.number) e))
-quadratic-told (Quadratic.Refused f) (Quadratic.Refused g) e =
-    ap Quadratic.Refused (refusal-told f g (ap (λ (x : QuadraticReply). x.number) e) (ap (λ (x : QuadraticReply). x.place) e))
+    }))))
 
-pub move-told : (r s : Copied) → move_reply (copied_outcome r) ≡ move_reply (copied_outcome s) → r ≡ s
-move-told (Copied.Length m) (Copied.Length n) e = ap Copied.Length (ap (λ (x : MoveReply). x.length) e)
-move-told (Copied.Length m) (Copied.Refused g) e =
-    absurd (number-some g.reason (sym (ap (λ (x : MoveReply). x.number) e)))
-move-told (Copied.Refused f) (Copied.Length n) e =
-    absurd (number-some f.reason (ap (λ (x : MoveReply). x.number) e))
-move-told (Copied.Refused f) (Copied.Refused g) e =
-    ap Copied.Refused (refusal-told f g (ap (λ (x : MoveReply). x.number) e) (ap (λ (x : MoveReply). x.place) e))
+pub move-told : (r s : Result ℕ Refusal) → move_reply (copied_outcome r) ≡ move_reply (copied_outcome s) → r ≡ s
+move-told =
+    result-told (λ r. move_reply (copied_outcome r)) (λ x. x.number) (λ x. x.place) (λ a. refl) (λ f. refl) (λ f. refl)
+    (λ a b. ap (λ (x : MoveReply). x.length))
 
-pub price-told : (r s : Priced) → price_reply (priced_outcome r) ≡ price_reply (priced_outcome s) → r ≡ s
-price-told (Priced.Pence m) (Priced.Pence n) e = ap Priced.Pence (ap (λ (x : PriceReply). x.pence) e)
-price-told (Priced.Pence m) (Priced.Refused g) e =
-    absurd (number-some g.reason (sym (ap (λ (x : PriceReply). x.number) e)))
-price-told (Priced.Refused f) (Priced.Pence n) e =
-    absurd (number-some f.reason (ap (λ (x : PriceReply). x.number) e))
-price-told (Priced.Refused f) (Priced.Refused g) e =
-    ap Priced.Refused (refusal-told f g (ap (λ (x : PriceReply). x.number) e) (ap (λ (x : PriceReply). x.place) e))
+pub price-told : (r s : Result ℕ Refusal) → price_reply (priced_outcome r) ≡ price_reply (priced_outcome s) → r ≡ s
+price-told =
+    result-told (λ r. price_reply (priced_outcome r)) (λ x. x.number) (λ x. x.place) (λ a. refl) (λ f. refl) (λ f. refl)
+    (λ a b. ap (λ (x : PriceReply). x.pence))
 
 which-told : (v w : Which) → key_number v ≡ key_number w → v ≡ w
 which-told Which.First Which.First e = refl
@@ -131,21 +121,34 @@ which-told Which.Neither Which.First e = absurd (omega (arith, e))
 which-told Which.Neither Which.Second e = absurd (omega (arith, e))
 which-told Which.Neither Which.Neither e = refl
 
-pub compare-told : (r s : Compared) →
+-- a refusal by a call that takes two keys is told by the key's number, its own number and its place
+pair-refusal-told : (f g : PairRefusal) → key_number f.key ≡ key_number g.key → number_of f.refusal.reason ≡ number_of g.refusal.reason →
+    f.refusal.place ≡ g.refusal.place → f ≡ g
+pair-refusal-told f g keys numbers places =
+    let key = which-told f.key g.key keys in
+    let refusal = refusal-told f.refusal g.refusal numbers places in
+    λ i. record { key = key i; refusal = refusal i }
+
+not-refused : (l : Likeness) (factors : ℕ) → (compare_reply (likeness_answer l) factors).number ≡ 0
+not-refused Likeness.Same factors = refl
+not-refused Likeness.Different factors = refl
+
+pub compare-told : (r s : Result Compared PairRefusal) →
     compare_reply (compared_answer r) (compared_factors r) ≡ compare_reply (compared_answer s) (compared_factors s) → r ≡ s
-compare-told (Compared.Same m) (Compared.Same n) e = ap Compared.Same (ap (λ (x : CompareReply). x.factors) e)
-compare-told (Compared.Same m) (Compared.Different n) e = absurd (omega (arith, ap (λ (x : CompareReply). x.same) e))
-compare-told (Compared.Same m) (Compared.Refused w g) e = absurd (omega (arith, ap (λ (x : CompareReply). x.same) e))
-compare-told (Compared.Different m) (Compared.Same n) e = absurd (omega (arith, ap (λ (x : CompareReply). x.same) e))
-compare-told (Compared.Different m) (Compared.Different n) e = ap Compared.Different (ap (λ (x : CompareReply). x.factors) e)
-compare-told (Compared.Different m) (Compared.Refused w g) e =
-    absurd (number-some g.reason (sym (ap (λ (x : CompareReply). x.number) e)))
-compare-told (Compared.Refused v f) (Compared.Same n) e = absurd (omega (arith, ap (λ (x : CompareReply). x.same) e))
-compare-told (Compared.Refused v f) (Compared.Different n) e =
-    absurd (number-some f.reason (ap (λ (x : CompareReply). x.number) e))
-compare-told (Compared.Refused v f) (Compared.Refused w g) e =
-    ap₂ Compared.Refused (which-told v w (ap (λ (x : CompareReply). x.key) e))
-    (refusal-told f g (ap (λ (x : CompareReply). x.number) e) (ap (λ (x : CompareReply). x.place) e))
+compare-told (Ok r) (Ok s) e = ap Ok (likely r.likeness s.likeness r.factors s.factors e)
+  where
+    likely : (l m : Likeness) (f g : ℕ) → compare_reply (likeness_answer l) f ≡ compare_reply (likeness_answer m) g →
+        ◌≡◌ {A = Compared} (record { likeness = l; factors = f }) (record { likeness = m; factors = g })
+    likely Likeness.Same Likeness.Same f g e = λ i. record { likeness = Likeness.Same; factors = ap (λ (x : CompareReply). x.factors) e i }
+    likely Likeness.Same Likeness.Different f g e = absurd (omega (arith, ap (λ (x : CompareReply). x.same) e))
+    likely Likeness.Different Likeness.Same f g e = absurd (omega (arith, ap (λ (x : CompareReply). x.same) e))
+    likely Likeness.Different Likeness.Different f g e =
+        λ i. record { likeness = Likeness.Different; factors = ap (λ (x : CompareReply). x.factors) e i }
+compare-told (Ok r) (Err h) e = absurd (number-some h.refusal.reason (sym (ap (λ (x : CompareReply). x.number) e) ∙ not-refused r.likeness r.factors))
+compare-told (Err g) (Ok s) e = absurd (number-some g.refusal.reason (ap (λ (x : CompareReply). x.number) e ∙ not-refused s.likeness s.factors))
+compare-told (Err g) (Err h) e =
+    ap Err (pair-refusal-told g h (ap (λ (x : CompareReply). x.key) e) (ap (λ (x : CompareReply). x.number) e)
+    (ap (λ (x : CompareReply). x.place) e))
 
 pub shorter-told : (v w : Which) (first second first' second' : List ℕ) →
     shorter_reply v first second ≡ shorter_reply w first' second' → v ≡ w
@@ -158,30 +161,34 @@ shorter-replies :
     ≡ record { key = 1; length = 3 } ∷ record { key = 2; length = 2 } ∷ record { key = 0; length = 0 } ∷ []
 shorter-replies = refl
 
-values-told : (v w : Values) → v.a.0 ≡ w.a.0 → v.b.0 ≡ w.b.0 → v.c.0 ≡ w.c.0 → v ≡ w
-values-told v w a b c = λ i. record { a = record { 0 = a i }; b = record { 0 = b i }; c = record { 0 = c i } }
+values-told : (v w : Values Fp) → v.a.number ≡ w.a.number → v.b.number ≡ w.b.number → v.c.number ≡ w.c.number → v ≡ w
+values-told v w a b c =
+    let first = fp-equal {x = v.a} {y = w.a} a in
+    let second = fp-equal {x = v.b} {y = w.b} b in
+    let third = fp-equal {x = v.c} {y = w.c} c in
+    λ i. record { a = first i; b = second i; c = third i }
 
-pub locate-told : (r s : Located) → locate_reply (located_answer r) ≡ locate_reply (located_answer s) → r ≡ s
-locate-told Located.Same Located.Same e = refl
-locate-told Located.Same (Located.Differs cell) e = absurd (omega (arith, ap (λ (x : LocateReply). x.same) e))
-locate-told Located.Same (Located.Refused w g) e = absurd (omega (arith, ap (λ (x : LocateReply). x.same) e))
-locate-told (Located.Differs cell) Located.Same e = absurd (omega (arith, ap (λ (x : LocateReply). x.same) e))
-locate-told (Located.Differs cell) (Located.Differs other) e =
+pub locate-told : (r s : Result (Option Cell) PairRefusal) → locate_reply (located_answer r) ≡ locate_reply (located_answer s) → r ≡ s
+locate-told (Ok None) (Ok None) e = refl
+locate-told (Ok None) (Ok (Some cell)) e = absurd (omega (arith, ap (λ (x : LocateReply). x.same) e))
+locate-told (Ok None) (Err g) e = absurd (omega (arith, ap (λ (x : LocateReply). x.same) e))
+locate-told (Ok (Some cell)) (Ok None) e = absurd (omega (arith, ap (λ (x : LocateReply). x.same) e))
+locate-told (Ok (Some cell)) (Ok (Some other)) e =
     let row = ap (λ (x : LocateReply). x.row) e in
     let column = ap (λ (x : LocateReply). x.column) e in
     let first = values-told cell.first other.first (ap (λ (x : LocateReply). x.first_a) e)
     (ap (λ (x : LocateReply). x.first_b) e) (ap (λ (x : LocateReply). x.first_c) e) in
     let second = values-told cell.second other.second (ap (λ (x : LocateReply). x.second_a) e)
     (ap (λ (x : LocateReply). x.second_b) e) (ap (λ (x : LocateReply). x.second_c) e) in
-    λ i. Located.Differs (record { row = row i; column = column i; first = first i; second = second i })
-locate-told (Located.Differs cell) (Located.Refused w g) e =
-    absurd (number-some g.reason (sym (ap (λ (x : LocateReply). x.number) e)))
-locate-told (Located.Refused v f) Located.Same e = absurd (omega (arith, ap (λ (x : LocateReply). x.same) e))
-locate-told (Located.Refused v f) (Located.Differs other) e =
-    absurd (number-some f.reason (ap (λ (x : LocateReply). x.number) e))
-locate-told (Located.Refused v f) (Located.Refused w g) e =
-    ap₂ Located.Refused (which-told v w (ap (λ (x : LocateReply). x.key) e))
-    (refusal-told f g (ap (λ (x : LocateReply). x.number) e) (ap (λ (x : LocateReply). x.place) e))
+    λ i. Ok (Some (record { row = row i; column = column i; first = first i; second = second i }))
+locate-told (Ok (Some cell)) (Err g) e =
+    absurd (number-some g.refusal.reason (sym (ap (λ (x : LocateReply). x.number) e)))
+locate-told (Err f) (Ok None) e = absurd (omega (arith, ap (λ (x : LocateReply). x.same) e))
+locate-told (Err f) (Ok (Some other)) e =
+    absurd (number-some f.refusal.reason (ap (λ (x : LocateReply). x.number) e))
+locate-told (Err f) (Err g) e =
+    ap Err (pair-refusal-told f g (ap (λ (x : LocateReply). x.key) e) (ap (λ (x : LocateReply). x.number) e)
+    (ap (λ (x : LocateReply). x.place) e))
 
 pub same-told : (answer : Answer) (factors : ℕ) → eqb (compare_reply answer factors).same 1 ≡ is_same answer
 unfolding is_same

@@ -26,8 +26,6 @@ ghost use Rattle.editions.specs.OtherEdition.{Moves};
 ghost use Rattle.morgana.specs.Reply.{check_reply, evaluate_reply, quadratic_reply, compare_reply, shorter_reply, locate_reply, price_reply, move_reply};
 ghost use Rattle.morgana.specs.Version.{version};
 
-use key::Checked;
-
 // The reply to check: an accepted key's counts of arrays, cells and calls, and its row bits and column bits.
 #[repr(C)]
 #[derive(Clone, Copy)]
@@ -140,7 +138,7 @@ pub extern "C" fn morgana_check(key: &[u8]) -> CheckReply
     ensures reply { result ≡ check_reply (checked_key key.now) }
 {
     match key::check(key) {
-        Checked::Accepted(counts) => {
+        Ok(counts) => {
             let arrays = counts.arrays as u32;
             let cells = counts.cells as u32;
             let calls = counts.calls as u32;
@@ -154,7 +152,7 @@ pub extern "C" fn morgana_check(key: &[u8]) -> CheckReply
                 columns: counts.columns as u32,
             }
         }
-        Checked::Refused(refusal) => CheckReply {
+        Err(refusal) => CheckReply {
             number: reply::number(refusal),
             place: refusal.place as u64,
             arrays: 0,

@@ -12,27 +12,27 @@ ghost use Rattle.morgana.specs.Reply.{evaluate_reply, quadratic_reply, compare_r
 use crate::{
     CompareReply, EvaluateReply, LocateReply, MoveReply, PriceReply, QuadraticReply, ShorterReply,
 };
-use compare::Compared;
-use editions::Copied;
-use evaluate::Evaluated;
-use locate::Located;
-use price::Priced;
-use refusal::{Refusal, Which};
+use compare::{Compared, Likeness};
+use evaluate::Counted;
+use field::Fp;
+use locate::Cell;
+use quadratic::Fp2;
+use refusal::{PairRefusal, Refusal, Which};
 
 // The reply for an answer of evaluate or cell.
-pub(crate) fn of_evaluated(answer: Evaluated) -> EvaluateReply
+pub(crate) fn of_evaluated(answer: Result<Counted<Fp>, Refusal>) -> EvaluateReply
     ensures { result ≡ evaluate_reply (evaluated_outcome answer) }
 {
     match answer {
-        Evaluated::Values(values, factors) => EvaluateReply {
+        Ok(counted) => EvaluateReply {
             number: 0,
             place: 0,
-            a: values.a.value(),
-            b: values.b.value(),
-            c: values.c.value(),
-            factors: factors as u64,
+            a: counted.values.a.value(),
+            b: counted.values.b.value(),
+            c: counted.values.c.value(),
+            factors: counted.factors as u64,
         },
-        Evaluated::Refused(refusal) => EvaluateReply {
+        Err(refusal) => EvaluateReply {
             number: number(refusal),
             place: refusal.place as u64,
             a: 0,
@@ -44,22 +44,22 @@ pub(crate) fn of_evaluated(answer: Evaluated) -> EvaluateReply
 }
 
 // The reply for an answer of evaluate over the field of p² elements.
-pub(crate) fn of_quadratic(answer: evaluate_quadratic::Evaluated) -> QuadraticReply
+pub(crate) fn of_quadratic(answer: Result<Counted<Fp2>, Refusal>) -> QuadraticReply
     ensures { result ≡ quadratic_reply (evaluated_quadratic answer) }
 {
     match answer {
-        evaluate_quadratic::Evaluated::Values(values, factors) => QuadraticReply {
+        Ok(counted) => QuadraticReply {
             number: 0,
             place: 0,
-            a_u: values.a.u.value(),
-            a_v: values.a.v.value(),
-            b_u: values.b.u.value(),
-            b_v: values.b.v.value(),
-            c_u: values.c.u.value(),
-            c_v: values.c.v.value(),
-            factors: factors as u64,
+            a_u: counted.values.a.u.value(),
+            a_v: counted.values.a.v.value(),
+            b_u: counted.values.b.u.value(),
+            b_v: counted.values.b.v.value(),
+            c_u: counted.values.c.u.value(),
+            c_v: counted.values.c.v.value(),
+            factors: counted.factors as u64,
         },
-        evaluate_quadratic::Evaluated::Refused(refusal) => QuadraticReply {
+        Err(refusal) => QuadraticReply {
             number: number(refusal),
             place: refusal.place as u64,
             a_u: 0,
@@ -74,28 +74,27 @@ pub(crate) fn of_quadratic(answer: evaluate_quadratic::Evaluated) -> QuadraticRe
 }
 
 // The reply for an answer of compare, over either field.
-pub(crate) fn of_compared(answer: Compared) -> CompareReply
+pub(crate) fn of_compared(answer: Result<Compared, PairRefusal>) -> CompareReply
     ensures { result ≡ compare_reply (compared_answer answer) (compared_factors answer) }
 {
     match answer {
-        Compared::Same(factors) => CompareReply {
-            number: 0,
-            place: 0,
-            key: 0,
-            same: 1,
-            factors: factors as u64,
-        },
-        Compared::Different(factors) => CompareReply {
-            number: 0,
-            place: 0,
-            key: 0,
-            same: 0,
-            factors: factors as u64,
-        },
-        Compared::Refused(which, refusal) => CompareReply {
-            number: number(refusal),
-            place: refusal.place as u64,
-            key: key_number(which),
+        Ok(compared) => {
+            let same = match compared.likeness {
+                Likeness::Same => 1,
+                Likeness::Different => 0,
+            };
+            CompareReply {
+                number: 0,
+                place: 0,
+                key: 0,
+                same,
+                factors: compared.factors as u64,
+            }
+        }
+        Err(refused) => CompareReply {
+            number: number(refused.refusal),
+            place: refused.refusal.place as u64,
+            key: key_number(refused.key),
             same: 0,
             factors: 0,
         },
@@ -120,12 +119,12 @@ pub(crate) fn of_shorter(which: Which, first: &[u8], second: &[u8]) -> ShorterRe
 }
 
 // The reply for an answer of locate.
-pub(crate) fn of_located(answer: Located) -> LocateReply
+pub(crate) fn of_located(answer: Result<Option<Cell>, PairRefusal>) -> LocateReply
     ensures { result ≡ locate_reply (located_answer answer) }
 {
     match answer {
-        Located::Same => no_cell(0, 0, 0, 1),
-        Located::Differs(cell) => LocateReply {
+        Ok(None) => no_cell(0, 0, 0, 1),
+        Ok(Some(cell)) => LocateReply {
             number: 0,
             place: 0,
             key: 0,
@@ -139,9 +138,14 @@ pub(crate) fn of_located(answer: Located) -> LocateReply
             second_b: cell.second.b.value(),
             second_c: cell.second.c.value(),
         },
-        Located::Refused(which, refusal) => {
-            let key = key_number(which);
-            no_cell(number(refusal), refusal.place as u64, key, 0)
+        Err(refused) => {
+            let key = key_number(refused.key);
+            no_cell(
+                number(refused.refusal),
+                refused.refusal.place as u64,
+                key,
+                0,
+            )
         }
     }
 }
@@ -167,16 +171,16 @@ fn no_cell(number: u32, place: u64, key: u32, same: u32) -> LocateReply
 }
 
 // The reply for an answer of price.
-pub(crate) fn of_priced(answer: Priced) -> PriceReply
+pub(crate) fn of_priced(answer: Result<usize, Refusal>) -> PriceReply
     ensures { result ≡ price_reply (priced_outcome answer) }
 {
     match answer {
-        Priced::Pence(pence) => PriceReply {
+        Ok(pence) => PriceReply {
             number: 0,
             place: 0,
             pence: pence as u64,
         },
-        Priced::Refused(refusal) => PriceReply {
+        Err(refusal) => PriceReply {
             number: number(refusal),
             place: refusal.place as u64,
             pence: 0,
@@ -185,16 +189,16 @@ pub(crate) fn of_priced(answer: Priced) -> PriceReply
 }
 
 // The reply for an answer of the move.
-pub(crate) fn of_copied(answer: Copied) -> MoveReply
+pub(crate) fn of_copied(answer: Result<usize, Refusal>) -> MoveReply
     ensures { result ≡ move_reply (copied_outcome answer) }
 {
     match answer {
-        Copied::Length(length) => MoveReply {
+        Ok(length) => MoveReply {
             number: 0,
             place: 0,
             length: length as u64,
         },
-        Copied::Refused(refusal) => MoveReply {
+        Err(refusal) => MoveReply {
             number: number(refusal),
             place: refusal.place as u64,
             length: 0,

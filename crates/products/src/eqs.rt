@@ -2,8 +2,12 @@
 ghost use Rattle.std.specs.Prelude.{◌≡◌, ◌≤◌, length};
 
 use crate::{input, print};
+use field::Fp;
+use quadratic::Fp2;
+use scalar::Scalar;
 use std::io;
 use std::io::{Read, Write};
+use weights::Product;
 
 // Prints eq of the next two lists of so many numbers, and its count of factors. Inner: they are at most 30.
 pub(crate) fn eq<R: Read, W: Write>(reader: &mut R, writer: &mut W, count: usize) -> io::Result<()>
@@ -11,21 +15,7 @@ pub(crate) fn eq<R: Read, W: Write>(reader: &mut R, writer: &mut W, count: usize
 {
     let mut x = [0u32; 30];
     let mut y = [0u32; 30];
-    of_lists(reader, writer, &mut x[0..count], &mut y[0..count])
-}
-
-// Reads the lists and prints their eq. Inner: they have the same length.
-fn of_lists<R: Read, W: Write>(
-    reader: &mut R,
-    writer: &mut W,
-    x: &mut [u32],
-    y: &mut [u32],
-) -> io::Result<()>
-    requires { length x.old ≡ length y.old }
-{
-    input::fill(reader, x)?;
-    input::fill(reader, y)?;
-    let product = weights::eq(x, y);
+    let product = of_lists::<Fp, R>(reader, &mut x[0..count], &mut y[0..count])?;
     print::element(writer, product.value)?;
     print::count(writer, product.factors)
 }
@@ -40,22 +30,21 @@ pub(crate) fn eq_quadratic<R: Read, W: Write>(
 {
     let mut x = [0u32; 60];
     let mut y = [0u32; 60];
-    of_pairs(reader, writer, &mut x[0..2 * count], &mut y[0..2 * count])
+    let product = of_lists::<Fp2, R>(reader, &mut x[0..2 * count], &mut y[0..2 * count])?;
+    print::element(writer, product.value.u)?;
+    print::element(writer, product.value.v)?;
+    print::count(writer, product.factors)
 }
 
-// Reads the lists and prints their eq. Inner: they have the same length.
-fn of_pairs<R: Read, W: Write>(
+// Reads the lists, and answers their eq. Inner: they have the same length.
+fn of_lists<S: Scalar, R: Read>(
     reader: &mut R,
-    writer: &mut W,
     x: &mut [u32],
     y: &mut [u32],
-) -> io::Result<()>
+) -> io::Result<Product<S>>
     requires { length x.old ≡ length y.old }
 {
     input::fill(reader, x)?;
     input::fill(reader, y)?;
-    let product = weights_quadratic::eq(x, y);
-    print::element(writer, product.value.u)?;
-    print::element(writer, product.value.v)?;
-    print::count(writer, product.factors)
+    Ok(weights::eq(x, y))
 }

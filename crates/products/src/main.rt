@@ -1,4 +1,4 @@
-// Runs the cases of standard input through the inner calls of weights and weights_quadratic and prints a line for each: the case,
+// Runs the cases of standard input through the inner calls of weights and prints a line for each: the case,
 // what is wanted and what was got. tests/cases writes the cases and the wanted lines from 004.
 //
 // Standard input is the number of cases and then each case: its header (input::Header), the text to print in front of what was

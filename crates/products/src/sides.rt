@@ -1,11 +1,13 @@
 // Weights by a prepared side, from a bit of it up to each further one.
 ghost use Rattle.std.specs.Prelude.{◌^◌, ◌≤◌, ◌<◌, length};
-ghost use Rattle.weights.specs.Words.{singles};
+ghost use Rattle.scalar.specs.Elements.{singles};
 ghost use Rattle.weights.specs.Side.{Ready, ForSide};
 
 use crate::input::Header;
 use crate::{input, print};
 use field::Fp;
+use scalar::Scalar;
+use scalar::unreduced::Product;
 use std::io;
 use std::io::{Read, Write};
 use weights::side::Weight;
@@ -23,7 +25,7 @@ pub(crate) fn weights<R: Read, W: Write>(
     let count = header.count;
     let mut coordinates = [0u32; 30];
     if header.places == 64 {
-        let mut table = [0u32; table::PLACES];
+        let mut table = [Fp::zero(); table::PLACES];
         return by_table(
             reader,
             writer,
@@ -32,7 +34,7 @@ pub(crate) fn weights<R: Read, W: Write>(
             &mut table,
         );
     }
-    let mut table = [0u32; table::LIMB_PLACES];
+    let mut table = [Fp::zero(); table::LIMB_PLACES];
     by_table(
         reader,
         writer,
@@ -48,9 +50,9 @@ fn by_table<R: Read, W: Write>(
     writer: &mut W,
     header: Header,
     coordinates: &mut [u32],
-    table: &mut [u32],
+    table: &mut [Fp],
 ) -> io::Result<()>
-    requires { (length coordinates.old ≤ 30) × Ready singles table.old }
+    requires { (length coordinates.old ≤ 30) × Ready table.old }
 {
     input::fill(reader, coordinates)?;
     table::prepare(coordinates, table);
@@ -64,13 +66,7 @@ fn by_table<R: Read, W: Write>(
 
 // Prints the weights of a number over the bits from one up to each that is not before it, each of the number's lowest bits, so many. Inner:
 // the table is one for so many coordinates.
-fn windows<W: Write>(
-    writer: &mut W,
-    a: u32,
-    table: &[u32],
-    from: usize,
-    count: u8,
-) -> io::Result<()>
+fn windows<W: Write>(writer: &mut W, a: u32, table: &[Fp], from: usize, count: u8) -> io::Result<()>
     requires { ForSide singles count table.now }
 {
     for bits in 0..count + 1 {
@@ -86,7 +82,7 @@ fn windows<W: Write>(
 }
 
 // Prints the weights of a number over the first bits, up to each, likewise. Inner: likewise.
-fn from_first<W: Write>(writer: &mut W, a: u32, table: &[u32], count: u8) -> io::Result<()>
+fn from_first<W: Write>(writer: &mut W, a: u32, table: &[Fp], count: u8) -> io::Result<()>
     requires { ForSide singles count table.now }
 {
     for bits in 0..count + 1 {
@@ -105,7 +101,7 @@ fn lowest(a: u32, bits: usize) -> u32
 }
 
 // Prints a weight and its count of factors.
-fn weight<W: Write>(writer: &mut W, of: Weight) -> io::Result<()> {
-    print::element(writer, Fp::remainder(of.product))?;
+fn weight<W: Write>(writer: &mut W, of: Weight<Product>) -> io::Result<()> {
+    print::element(writer, <Fp as Scalar>::reduced(of.product))?;
     print::count(writer, of.factors)
 }

@@ -1,4 +1,4 @@
--- Worked examples: products, the sizes of the two fields, numbers two by two, and a word.
+-- Worked examples: products, the sizes of the two fields, and numbers two by two.
 use Prim.Native.Nat.{ℕ, ◌*◌}
 use mathlib.Core.List.{[], ◌∷◌}
 use mathlib.Core.Path.{◌≡◌, refl}
@@ -6,7 +6,6 @@ use Rattle.field.specs.Fp.{p}
 use Rattle.field.specs.Scalars.{prime, size_of}
 use Rattle.quadratic.specs.Fp2.{TwoParts, fp2}
 use Rattle.quadratic.specs.Quadratic.{two_by_two, quadratic}
-use Rattle.quadratic.specs.Words.{element_of}
 
 -- u + v·i
 abbrev element : ℕ → ℕ → TwoParts
@@ -58,7 +57,3 @@ three = refl
 pub four : two_by_two (3 ∷ 2 ∷ 4 ∷ 5 ∷ []) ≡ element 3 2 ∷ element 4 5 ∷ []
 unfolding two_by_two
 four = refl
-
--- 3 + 2·2^32
-pub word : element_of 8589934595 ≡ element 3 2
-word = refl

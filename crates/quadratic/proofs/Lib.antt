@@ -8,11 +8,7 @@ pub mod Fp2Field
 pub mod QuadraticLawful
 -- Numbers two by two: element i is made of the numbers 2i and 2i + 1.
 pub mod TwoByTwo
--- Parts below p: those of 0 and 1, of each operation's answer, and of an element that numbers below p make.
-pub mod PartsBelow
--- An element in a word: u + 2^32·v holds u and v.
-pub mod ElementInWord
--- How large sums of two products are, and what folding leaves of them.
+-- How large sums of two products are.
 pub mod UnreducedSizes
--- Worked examples: products, the sizes of the two fields, numbers two by two, and a word.
+-- Worked examples: products, the sizes of the two fields, and numbers two by two.
 pub mod Examples

@@ -1,9 +1,9 @@
 -- Products in the field of p²: with p - 1 for -1, a product is one of whole numbers, whose parts are then reduced.
 use Prim.Native.Nat.{ℕ, ◌+◌, ◌-◌, ◌*◌, ◌%◌, ◌≤◌}
 use mathlib.Core.Path.{◌≡◌, sym, ap, ap₂, ◌∙◌}
-use native.Mathlib.Nat.{add-mod, mul_comm}
+use native.Mathlib.Nat.{add-mod}
 use native.Mathlib.Omega.{arith}
-use Rattle.field.specs.Fp.{p, fp}
+use Rattle.field.specs.Fp.{p}
 use Rattle.field.proofs.Remainders.{same_rest, mod-mul-mod}
 use Rattle.quadratic.specs.Fp2.{TwoParts, fp2}
 
@@ -78,17 +78,3 @@ product_is x y s t l es et =
   where
     whole : (v : ℕ) → v ≤ 4294967294 → 4294967294 - v + v ≡ 4294967294
     whole v l = omega arith
-
--- the product with a number of the field of p
-pub scaled-is : (x : ℕ) (w : TwoParts) (s t : ℕ) → s % p ≡ fp.mul (w.u % p) x → t % p ≡ fp.mul (w.v % p) x →
-    reduced (record { u = s; v = t }) ≡ fp2.mul (record { u = x; v = 0 }) (reduced w)
-scaled-is x w s t es et =
-    parts-equal
-    (es ∙ ap (λ (n : ℕ). n % p) (mul_comm (w.u % p) x) ∙ none (x * (w.u % p)) (w.v % p))
-    (et ∙ ap (λ (n : ℕ). n % p) (mul_comm (w.v % p) x) ∙ alone (x * (w.v % p)) (w.u % p))
-  where
-    none : (a b : ℕ) → a % p ≡ fp.sub (a % p) (fp.mul 0 b)
-    none a b = omega arith
-
-    alone : (a b : ℕ) → a % p ≡ fp.add (a % p) (fp.mul 0 b)
-    alone a b = omega arith

@@ -2,4 +2,3 @@ pub mod Fp2
 pub mod Quadratic
 pub mod Parts
 pub mod Unreduced
-pub mod Words

@@ -3,19 +3,23 @@ use Rattle.std.specs.Prelude.{ℕ, ◌+◌, ◌/◌, ◌%◌, ◌≤◌, ◌<◌
 use Rattle.field.specs.Fp.{p}
 use Rattle.quadratic.specs.Fp2.{TwoParts}
 use Rattle.quadratic.specs.declared.unreduced.Unreduced.{Unreduced}
+use Rattle.quadratic.specs.declared.unreduced.Wide.{Wide}
 
 -- the element: each part modulo p
 abbrev pub remainders : Unreduced → TwoParts
 remainders x = record { u = x.u % p; v = x.v % p }
 
--- both parts are at most 2^31 + 4
-abbrev pub Small : Unreduced → Type 0
-Small x = (x.u ≤ 2147483652) × (x.v ≤ 2147483652)
+abbrev pub wide_remainders : Wide → TwoParts
+wide_remainders x = record { u = x.u % p; v = x.v % p }
 
 -- both parts are below a number
-abbrev pub Under : ℕ → Unreduced → Type 0
+abbrev pub Under : ℕ → Wide → Type 0
 Under n x = (x.u < n) × (x.v < n)
 
 -- both parts of the second are at most what folding leaves of those of the first
-abbrev pub FoldedFrom : Unreduced → Unreduced → Type 0
+abbrev pub FoldedFrom : Wide → Wide → Type 0
 FoldedFrom x y = (y.u ≤ x.u / 2147483648 + 2147483647) × (y.v ≤ x.v / 2147483648 + 2147483647)
+
+-- how large the parts are, together
+abbrev pub size_of_parts : Wide → ℕ
+size_of_parts x = x.u + x.v

@@ -3,18 +3,17 @@
 
 pub mod numbers;
 pub mod unreduced;
-pub mod words;
 
 ghost use Rattle.std.specs.Prelude.{◌≡◌, ◌<◌};
 ghost use Rattle.field.specs.Fp.{p};
 ghost use Rattle.quadratic.specs.Fp2.{fp2};
-ghost use Rattle.quadratic.specs.Parts.{parts, PartsBelow};
+ghost use Rattle.quadratic.specs.Parts.{parts};
 
 use field::Fp;
 use unreduced::Unreduced;
 
-// An element of the field: u and v of u + v·i, each below p.
-#[derive(Clone, Copy)]
+// An element of the field: u and v of u + v·i.
+#[derive(Clone, Copy, PartialEq, Eq)]
 pub struct Fp2 {
     pub u: Fp,
     pub v: Fp,
@@ -52,9 +51,8 @@ impl Fp2 {
         }
     }
 
-    // The sum. Inner: all parts are below p.
+    // The sum.
     pub fn add(self, other: Fp2) -> Fp2
-        requires { PartsBelow self × PartsBelow other }
         ensures { parts result ≡ fp2.add (parts self) (parts other) }
     {
         Fp2 {
@@ -63,9 +61,8 @@ impl Fp2 {
         }
     }
 
-    // The difference, this less the other. Inner: all parts are below p.
+    // The difference, this less the other.
     pub fn sub(self, other: Fp2) -> Fp2
-        requires { PartsBelow self × PartsBelow other }
         ensures { parts result ≡ fp2.sub (parts self) (parts other) }
     {
         Fp2 {
@@ -74,9 +71,8 @@ impl Fp2 {
         }
     }
 
-    // The product: two products for each part, which are reduced together. Inner: all parts are below p.
+    // The product: two products for each part, which are reduced together.
     pub fn mul(self, other: Fp2) -> Fp2
-        requires { PartsBelow self × PartsBelow other }
         ensures { parts result ≡ fp2.mul (parts self) (parts other) }
     {
         Unreduced::of(self).product(Unreduced::of(other)).element()

@@ -1,36 +1,37 @@
 // Elements whose parts need not be below p, so that a product of many factors is reduced once, at its end, and so is a sum.
 ghost use Rattle.std.specs.Prelude.{◌≡◌, ◌+◌, ◌*◌, ◌≤◌, ◌<◌};
-ghost use Rattle.field.specs.Fp.{p};
-ghost use Rattle.quadratic.specs.Fp2.{fp2};
-ghost use Rattle.quadratic.specs.Parts.{parts, PartsBelow};
-ghost use Rattle.quadratic.specs.Quadratic.{quadratic};
-ghost use Rattle.quadratic.specs.Unreduced.{remainders, Small, FoldedFrom, Under};
 
 use crate::Fp2;
 use field::Fp;
 
-// The element u + v·i: each part stands for its remainder by p.
+// The element u + v·i: each part stands for its remainder by p, and is at most 2^31 + 4.
 #[derive(Clone, Copy)]
 pub struct Unreduced {
+    u: u64,
+    v: u64,
+    pub ghost small: { (u ≤ 2147483652) × (v ≤ 2147483652) },
+}
+
+// The same of any parts.
+#[derive(Clone, Copy)]
+pub struct Wide {
     u: u64,
     v: u64,
 }
 
 impl Unreduced {
+    ghost use Rattle.field.specs.Fp.{p};
+    ghost use Rattle.quadratic.specs.Fp2.{fp2};
+    ghost use Rattle.quadratic.specs.Parts.{parts};
+    ghost use Rattle.quadratic.specs.Quadratic.{quadratic};
+    ghost use Rattle.quadratic.specs.Unreduced.{remainders, wide_remainders, Under};
+
     // 2·p, which is 0 modulo p.
     const TWICE_P: u64 = 4294967294;
 
-    // The element 0.
-    pub fn zero() -> Unreduced
-        ensures { result ≡ record { u = 0; v = 0 } }
-    {
-        Unreduced { u: 0, v: 0 }
-    }
-
-    // The element itself, with small parts. Inner: its parts are below p.
+    // The element itself.
     pub fn of(x: Fp2) -> Unreduced
-        requires { PartsBelow x }
-        ensures { (remainders result ≡ parts x) × Small result }
+        ensures { remainders result ≡ parts x }
     {
         Unreduced {
             u: x.u.value() as u64,
@@ -38,49 +39,34 @@ impl Unreduced {
         }
     }
 
-    // The product with an element, with small parts. Inner: this one's parts are small, the other's below p.
+    // The product with an element.
     pub fn times(self, other: Fp2) -> Unreduced
-        requires { Small self × PartsBelow other }
-        ensures { (remainders result ≡ fp2.mul (remainders self) (parts other)) × Small result }
+        ensures { remainders result ≡ fp2.mul (remainders self) (parts other) }
     {
         self.multiplied(Unreduced::of(other))
     }
 
-    // The product of two, with small parts. Inner: both have small parts.
+    // The product of two.
     pub fn multiplied(self, other: Unreduced) -> Unreduced
-        requires { Small self × Small other }
-        ensures { (remainders result ≡ fp2.mul (remainders self) (remainders other)) × Small result }
+        ensures { remainders result ≡ fp2.mul (remainders self) (remainders other) }
     {
-        self.weighed(other).folded()
+        self.weighed(other).narrowed()
     }
 
-    // The product of two, with parts below 2^33 + 2^31: it is folded once. Inner: both have small parts.
-    pub fn weighed(self, other: Unreduced) -> Unreduced
-        requires { Small self × Small other }
-        ensures { (remainders result ≡ fp2.mul (remainders self) (remainders other)) × Under 10737418240 result }
+    // The product of two, with parts below 2^33 + 2^31: it is folded once.
+    pub fn weighed(self, other: Unreduced) -> Wide
+        ensures { (wide_remainders result ≡ fp2.mul (remainders self) (remainders other)) × Under 10737418240 result }
     {
         self.product(other).folded()
     }
 
-    // The product with a number of the field of p, with parts below 2^33 + 2^31. Inner: this one's parts are small, the number is below p.
-    pub fn scaled(self, x: Fp) -> Unreduced
-        requires { Small self × (x.0 < p) }
-        ensures { (remainders result ≡ fp2.mul (quadratic.embed x.0) (remainders self)) × Under 10737418240 result }
+    // The product with a number of the field of p, with parts below 2^33 + 2^31.
+    pub fn scaled(self, x: Fp) -> Wide
+        ensures { (wide_remainders result ≡ fp2.mul (quadratic.embed x.number) (remainders self)) × Under 10737418240 result }
     {
-        Unreduced {
+        Wide {
             u: Fp::times(self.u, x),
             v: Fp::times(self.v, x),
-        }
-    }
-
-    // The sum, part by part. Inner: no part overflows.
-    pub fn plus(self, other: Unreduced) -> Unreduced
-        requires { (self.u + other.u < 18446744073709551616) × (self.v + other.v < 18446744073709551616) }
-        ensures { result ≡ record { u = self.u + other.u; v = self.v + other.v } }
-    {
-        Unreduced {
-            u: self.u + other.u,
-            v: self.v + other.v,
         }
     }
 
@@ -94,21 +80,64 @@ impl Unreduced {
         }
     }
 
-    // The product of two, each part a sum of two products: 2·p - v stands for -v. Inner: both have small parts.
-    pub(crate) fn product(self, other: Unreduced) -> Unreduced
-        requires { Small self × Small other }
-        ensures { (remainders result ≡ fp2.mul (remainders self) (remainders other)) × Under 13835058089641902080 result }
+    // The product of two, each part a sum of two products: 2·p - v stands for -v.
+    pub(crate) fn product(self, other: Unreduced) -> Wide
+        ensures { (wide_remainders result ≡ fp2.mul (remainders self) (remainders other)) × Under 13835058089641902080 result }
     {
         let less_v = Unreduced::TWICE_P - other.v;
-        Unreduced {
+        Wide {
             u: two_products(self.u, other.u, self.v, less_v),
             v: two_products(self.u, other.v, self.v, other.u),
         }
     }
+}
+
+impl Wide {
+    ghost use Rattle.quadratic.specs.Parts.{parts};
+    ghost use Rattle.quadratic.specs.Unreduced.{remainders, wide_remainders, Under, FoldedFrom};
+
+    // The element 0.
+    pub fn zero() -> Wide
+        ensures { result ≡ record { u = 0; v = 0 } }
+    {
+        Wide { u: 0, v: 0 }
+    }
+
+    // The sum, part by part. Inner: no part overflows.
+    pub fn plus(self, other: Wide) -> Wide
+        requires { (self.u + other.u < 18446744073709551616) × (self.v + other.v < 18446744073709551616) }
+        ensures { result ≡ record { u = self.u + other.u; v = self.v + other.v } }
+    {
+        Wide {
+            u: self.u + other.u,
+            v: self.v + other.v,
+        }
+    }
+
+    // The same element, with its parts below p.
+    pub fn element(self) -> Fp2
+        ensures { parts result ≡ wide_remainders self }
+    {
+        Fp2 {
+            u: Fp::remainder(self.u),
+            v: Fp::remainder(self.v),
+        }
+    }
 
     // The same element, each part folded once.
-    pub fn folded(self) -> Unreduced
-        ensures { (remainders result ≡ remainders self) × FoldedFrom self result }
+    pub fn folded(self) -> Wide
+        ensures { (wide_remainders result ≡ wide_remainders self) × FoldedFrom self result }
+    {
+        Wide {
+            u: Fp::folded(self.u),
+            v: Fp::folded(self.v),
+        }
+    }
+
+    // The same element, each part folded once, which leaves small parts. Inner: they are below 2^33 + 2^31.
+    pub fn narrowed(self) -> Unreduced
+        requires { Under 10737418240 self }
+        ensures { remainders result ≡ wide_remainders self }
     {
         Unreduced {
             u: Fp::folded(self.u),

@@ -1,5 +1,6 @@
 -- The key of 01's keysheet input: its bytes are those of its records, and each record is taken where it stands. Records of edition 2,
 -- and records that cannot be taken.
+use Rattle.std.specs.Prelude.{Ok}
 use Prim.Native.Nat.{ℕ}
 use mathlib.Core.List.{List, [], ◌∷◌, ◌++◌, map}
 use mathlib.Core.Path.{◌≡◌, refl}
@@ -8,7 +9,6 @@ use Rattle.refusal.specs.Outcome.{refused}
 use Rattle.records.specs.Kinds.{encoded}
 use Rattle.records.specs.Take.{taken_outcome, taken_as, taken_from, taken_at}
 use Rattle.records.specs.declared.Record.{Record}
-use Rattle.records.specs.declared.Taken.{Taken}
 
 abbrev pub key : List ℕ
 key =
@@ -43,13 +43,13 @@ bytes = refl
 -- behind the end there is no byte, and behind that no place
 records :
     map (taken_at key) (0 ∷ 3 ∷ 6 ∷ 27 ∷ 30 ∷ 41 ∷ 52 ∷ 53 ∷ 54 ∷ []) ≡
-    taken_outcome (Taken.Record head 3) ∷
-    taken_outcome (Taken.Record sparse 6) ∷
-    taken_outcome (Taken.Record cell 27) ∷
-    taken_outcome (Taken.Record recursive 30) ∷
-    taken_outcome (Taken.Record call 41) ∷
-    taken_outcome (Taken.Record call 52) ∷
-    taken_outcome (Taken.Record Record.End 53) ∷
+    taken_outcome (Ok (head, 3)) ∷
+    taken_outcome (Ok (sparse, 6)) ∷
+    taken_outcome (Ok (cell, 27)) ∷
+    taken_outcome (Ok (recursive, 30)) ∷
+    taken_outcome (Ok (call, 41)) ∷
+    taken_outcome (Ok (call, 52)) ∷
+    taken_outcome (Ok (Record.End, 53)) ∷
     refused 2 53 ∷
     refused 33 53 ∷ []
 unfolding taken_at taken_from taken_as number_of
@@ -59,8 +59,8 @@ records = refl
 scaled :
     map (taken_at (encoded (Record.ScaledHead (record { rows = 1; columns = 2 })) ++ (0x08 ∷ 0x03 ∷ 0x00 ∷ 0x04 ∷ 0x00 ∷ 0x00 ∷ 0x00 ∷
     0x05 ∷ 0x00 ∷ 0x00 ∷ 0x00 ∷ 0x02 ∷ 0x01 ∷ 0x00 ∷ 0x00 ∷ []))) (0 ∷ 3 ∷ []) ≡
-    taken_outcome (Taken.Record (Record.ScaledHead (record { rows = 1; columns = 2 })) 3) ∷
-    taken_outcome (Taken.Record (Record.ScaledCall (record { id = 3; down = 4; right = 5; factor = 258 })) 18) ∷ []
+    taken_outcome (Ok ((Record.ScaledHead (record { rows = 1; columns = 2 })), 3)) ∷
+    taken_outcome (Ok ((Record.ScaledCall (record { id = 3; down = 4; right = 5; factor = 258 })), 18)) ∷ []
 unfolding taken_at taken_from taken_as
 scaled = refl
 

@@ -1,4 +1,5 @@
 -- Where a kind and fields are found in bytes, the record of that kind and those fields is taken.
+use Rattle.std.specs.Prelude.{Ok}
 use Prim.Native.Nat.{ℕ, ◌+◌, ◌<◌}
 use mathlib.Core.List.{List}
 use mathlib.Core.Path.{◌≡◌, refl, sym, ap, subst, ◌∙◌}
@@ -10,7 +11,6 @@ use Rattle.records.specs.Inner.{size_of}
 use Rattle.records.specs.Kinds.{kind_of, fields_of, widths_of, encoded, record_of}
 use Rattle.records.specs.Layout.{fields_in, total}
 use Rattle.records.specs.Take.{Found, taken_outcome, taken_at}
-use Rattle.records.specs.declared.Taken.{Taken}
 use Rattle.records.proofs.RecordSizes.{end-kind, size-encoded}
 use Rattle.records.proofs.TakeCases.{Whole, given-whole}
 
@@ -53,7 +53,7 @@ made kind sized rest =
 
 -- where a kind and fields were found, the record of that kind and those fields is taken
 pub found-taken : (bytes : List ℕ) (at : ℕ) (t : Found) → taken_at bytes at ≡ given t →
-    (taken_at bytes at ≡ taken_outcome (Taken.Record (record_of t.kind t.fields) t.next)) ×
+    (taken_at bytes at ≡ taken_outcome (Ok ((record_of t.kind t.fields), t.next))) ×
     (t.next ≡ at + length (encoded (record_of t.kind t.fields)))
 found-taken bytes at t e =
     let all = subst Taking (sym whole.is) (
@@ -64,7 +64,7 @@ found-taken bytes at t e =
   where
     Taking : Found → Type 0
     Taking t =
-        (given t ≡ taken_outcome (Taken.Record (record_of t.kind t.fields) t.next)) ×
+        (given t ≡ taken_outcome (Ok ((record_of t.kind t.fields), t.next))) ×
         (t.next ≡ at + length (encoded (record_of t.kind t.fields)))
 
     whole : Whole bytes at t

@@ -1,4 +1,6 @@
 -- Taking what was put gives the record back, and putting what was taken gives the bytes back.
+use Rattle.refusal.specs.declared.Refusal.{Refusal}
+use Rattle.std.specs.Prelude.{Result, Ok}
 use Prim.Native.Nat.{ℕ, suc, ◌+◌, ◌-◌, ◌≤◌, ◌<◌}
 use mathlib.Core.List.{List, ◌∷◌, ◌++◌, append_assoc}
 use mathlib.Core.Path.{◌≡◌, sym, ap, ap₂, ◌∙◌}
@@ -15,8 +17,6 @@ use Rattle.records.specs.Put.{Putting, written_outcome, overwritten, put_at}
 use Rattle.records.specs.RoundTrip.{ReadBack, Again, WrittenAgain}
 use Rattle.records.specs.Take.{Found, taken_outcome, taken_at}
 use Rattle.records.specs.declared.Record.{Record}
-use Rattle.records.specs.declared.Taken.{Taken}
-use Rattle.records.specs.declared.Written.{Written}
 use Rattle.records.proofs.FieldBytes.{length_fields, fields_back, bytes-dropped, bytes_back}
 use Rattle.records.proofs.NumberBytes.{AreBytes, drop-from}
 use Rattle.records.proofs.PutCases.{untouched, Room, given-room, record-put}
@@ -25,7 +25,7 @@ use Rattle.records.proofs.TakeCases.{found, record-given, Whole, given-whole, gi
 
 -- a record whose bytes stand between any others is taken
 pub taken-between : (r : Record) (before behind : List ℕ) → Fitting r →
-    taken_at (before ++ (encoded r ++ behind)) (length before) ≡ taken_outcome (Taken.Record r (length before + length (encoded r)))
+    taken_at (before ++ (encoded r ++ behind)) (length before) ≡ taken_outcome (Ok (r, (length before + length (encoded r))))
 taken-between r before behind fit =
     record-given bytes at within (λ e. omega (arith, sized)) (omega (arith, sized, all))
     ∙ ap₂ (λ (kind : ℕ) (rest : List ℕ). given (found at kind (widths_of kind) rest)) kind rest
@@ -63,7 +63,7 @@ taken-between r before behind fit =
 
 -- what was put is taken, with the offset that putting answered
 pub put-taken : (r : Record) → Fitting r → (buffer : List ℕ) (at next : ℕ) → (put_at r buffer at).answer ≡ given next →
-    taken_at (put_at r buffer at).buffer at ≡ taken_outcome (Taken.Record r next)
+    taken_at (put_at r buffer at).buffer at ≡ taken_outcome (Ok (r, next))
 put-taken r fit buffer at next e =
     let room : Room r buffer at next = given-room r buffer at next e in
     let front : length (take at buffer) ≡ at = length-take-le at buffer (omega arith) in
@@ -71,7 +71,7 @@ put-taken r fit buffer at next e =
     (rw front at (taken-between r (take at buffer) (drop (at + length (encoded r)) buffer) fit))
 
 -- what was taken is put as the bytes that it was taken from
-module _ (bytes : List ℕ) (are : AreBytes bytes) (at next : ℕ) (r : Record) (e : taken_at bytes at ≡ taken_outcome (Taken.Record r next)) where
+module _ (bytes : List ℕ) (are : AreBytes bytes) (at next : ℕ) (r : Record) (e : taken_at bytes at ≡ taken_outcome (Ok (r, next))) where
   taken : Found
   taken = record { kind = kind_of r; fields = fields_of r; next = next }
 
@@ -134,11 +134,11 @@ module _ (bytes : List ℕ) (are : AreBytes bytes) (at next : ℕ) (r : Record) 
 
 -- ---- the promises of take and put
 
-pub take-promise : (bytes : List ℕ) → AreBytes bytes → (at : ℕ) (answer : Taken) → taken_outcome answer ≡ taken_at bytes at →
+pub take-promise : (bytes : List ℕ) → AreBytes bytes → (at : ℕ) (answer : Result (Record × ℕ) Refusal) → taken_outcome answer ≡ taken_at bytes at →
     (taken_outcome answer ≡ taken_at bytes at) × WrittenAgain answer bytes at
 take-promise bytes are at answer e = (e, λ item next g. taken-put bytes are at next item (sym e ∙ ap taken_outcome g))
 
-module _ (item : Record) (before : List ℕ) (at : ℕ) (answer : Written) where
+module _ (item : Record) (before : List ℕ) (at : ℕ) (answer : Result ℕ Refusal) where
   abbrev Promise : List ℕ → Type 0
   Promise after =
       (written_outcome answer ≡ (put_at item before at).answer) × ((after ≡ (put_at item before at).buffer) × ReadBack item answer after at)

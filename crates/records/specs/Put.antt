@@ -1,16 +1,15 @@
 -- What putting a record at an offset answers, and every byte of the buffer afterwards (01, 'Single cells, and writing
 -- records' and 'Order').
-use Rattle.std.specs.Prelude.{ℕ, ◌+◌, ◌-◌, cond, List, ◌++◌, ltb, length, take, drop}
-use Rattle.refusal.specs.Outcome.{Outcome, given, refuse, refusal_of}
+use Rattle.std.specs.Prelude.{Result, ℕ, ◌+◌, ◌-◌, cond, List, ◌++◌, ltb, length, take, drop}
+use Rattle.refusal.specs.Outcome.{Outcome, given, refuse, outcome}
 use Rattle.refusal.specs.declared.Reason.{Reason}
+use Rattle.refusal.specs.declared.Refusal.{Refusal}
 use Rattle.records.specs.Kinds.{encoded}
 use Rattle.records.specs.declared.Record.{Record}
-use Rattle.records.specs.declared.Written.{Written}
 
--- what each case of the answer says: the offset behind the record
-abbrev pub written_outcome : Written → Outcome ℕ
-written_outcome (Written.Next next) = given next
-written_outcome (Written.Refused f) = refusal_of f
+-- what is answered: the offset behind the record
+abbrev pub written_outcome : Result ℕ Refusal → Outcome ℕ
+written_outcome = outcome
 
 -- an answer, and the buffer as it is then
 pub record Putting : Type 0 where

@@ -1,17 +1,16 @@
 -- Records written are read back the same, and records read and written again give the same bytes (demand 2).
-use Rattle.std.specs.Prelude.{ℕ, ◌+◌, ◌-◌, ◌≤◌, ◌<◌, List, ◌≡◌, length, take, drop}
+use Rattle.std.specs.Prelude.{Result, Ok, ℕ, ◌+◌, ◌-◌, ◌≤◌, ◌<◌, List, ◌≡◌, length, take, drop}
 use Rattle.refusal.specs.Outcome.{given}
+use Rattle.refusal.specs.declared.Refusal.{Refusal}
 use Rattle.records.specs.Put.{overwritten, put_at}
 use Rattle.records.specs.Take.{taken_outcome, taken_at}
 use Rattle.records.specs.declared.Record.{Record}
-use Rattle.records.specs.declared.Taken.{Taken}
-use Rattle.records.specs.declared.Written.{Written}
 
 -- A put of the item at an offset gave this answer and left this buffer. Where the answer is a next offset, a take at the
 -- offset gives the item and that next offset.
-abbrev pub ReadBack : Record → Written → List ℕ → ℕ → Type 0
+abbrev pub ReadBack : Record → (Result ℕ Refusal) → List ℕ → ℕ → Type 0
 ReadBack item answer buffer at =
-    (next : ℕ) → answer ≡ Written.Next next → taken_at buffer at ≡ taken_outcome (Taken.Record item next)
+    (next : ℕ) → answer ≡ Ok next → taken_at buffer at ≡ taken_outcome (Ok (item, next))
 
 -- The item was taken from the bytes at an offset, with this next offset.
 pub record Again (item : Record) (bytes : List ℕ) (at next : ℕ) : Type 0 where
@@ -26,5 +25,5 @@ pub record Again (item : Record) (bytes : List ℕ) (at next : ℕ) : Type 0 whe
       record { answer = given (to + (next - at)); buffer = overwritten (take (next - at) (drop at bytes)) buffer to }
 
 -- A take at an offset gave this answer.
-abbrev pub WrittenAgain : Taken → List ℕ → ℕ → Type 0
-WrittenAgain answer bytes at = (item : Record) (next : ℕ) → answer ≡ Taken.Record item next → Again item bytes at next
+abbrev pub WrittenAgain : (Result (Record × ℕ) Refusal) → List ℕ → ℕ → Type 0
+WrittenAgain answer bytes at = (item : Record) (next : ℕ) → answer ≡ Ok (item, next) → Again item bytes at next

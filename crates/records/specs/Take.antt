@@ -1,11 +1,12 @@
 -- What taking a record at an offset answers (01, 'Records' and 'Order').
-use Rattle.std.specs.Prelude.{ℕ, ◌+◌, cond, List, [], ◌∷◌, ltb, length, drop}
+use Rattle.std.specs.Prelude.{Result, ℕ, ◌+◌, cond, List, [], ◌∷◌, ltb, length, drop}
 use Rattle.std.proofs.Math.Option.{Option, none, some}
-use Rattle.refusal.specs.Outcome.{Outcome, given, refuse, refusal_of}
+use Rattle.refusal.specs.Outcome.{Outcome, given, refuse, outcome_of}
 use Rattle.refusal.specs.declared.Reason.{Reason}
+use Rattle.refusal.specs.declared.Refusal.{Refusal}
 use Rattle.records.specs.Kinds.{kind_of, fields_of}
 use Rattle.records.specs.Layout.{layout, lookup, fields_in, total}
-use Rattle.records.specs.declared.Taken.{Taken}
+use Rattle.records.specs.declared.Record.{Record}
 
 -- a record that was taken: its kind, its fields, and the offset behind it
 pub record Found : Type 0 where
@@ -13,10 +14,9 @@ pub record Found : Type 0 where
   pub fields : List ℕ
   pub next : ℕ
 
--- what each case of the answer says
-abbrev pub taken_outcome : Taken → Outcome Found
-taken_outcome (Taken.Record r next) = given (record { kind = kind_of r; fields = fields_of r; next = next })
-taken_outcome (Taken.Refused f) = refusal_of f
+-- what is answered: the record's kind and fields, and the offset behind it
+abbrev pub taken_outcome : Result (Record × ℕ) Refusal → Outcome Found
+taken_outcome = outcome_of (λ taken. record { kind = kind_of taken.0; fields = fields_of taken.0; next = taken.1 })
 
 -- a kind, the widths that the layout has for it, and the bytes behind it: an unknown kind is refused, then a body cut off
 unfoldable pub taken_as : ℕ → ℕ → Option (List ℕ) → List ℕ → Outcome Found

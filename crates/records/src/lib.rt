@@ -5,7 +5,6 @@ pub mod read;
 mod write;
 
 ghost use Rattle.std.specs.Prelude.{◌≡◌};
-ghost use Rattle.refusal.specs.Outcome.{refuse};
 ghost use Rattle.records.specs.Kinds.{kind_of, without_factor};
 ghost use Rattle.records.specs.Inner.{size_of};
 ghost use Rattle.records.specs.Take.{taken_outcome, taken_at};
@@ -70,24 +69,6 @@ pub enum Record {
     ScaledCall(ScaledCall),
 }
 
-// What taking a record answers.
-#[derive(Clone, Copy)]
-pub enum Taken {
-    // The record, and the offset behind it.
-    Record(Record, usize),
-    // There is no whole record of a known kind at the offset.
-    Refused(Refusal),
-}
-
-// What putting a record answers.
-#[derive(Clone, Copy)]
-pub enum Written {
-    // The offset behind the record.
-    Next(usize),
-    // The record does not fit, and nothing is written.
-    Refused(Refusal),
-}
-
 impl ScaledCall {
     // The call without its factor.
     pub fn without_factor(self) -> Call
@@ -101,69 +82,49 @@ impl ScaledCall {
     }
 }
 
-// The record at an offset, judged by its kind and its length alone.
-pub fn take(bytes: &[u8], at: usize) -> Taken
+// The record at an offset, judged by its kind and its length alone, and the offset behind it.
+pub fn take(bytes: &[u8], at: usize) -> Result<(Record, usize), Refusal>
     ensures answer { taken_outcome result ≡ taken_at bytes.now at }
     ensures again { WrittenAgain result bytes.now at }
 {
     let len = bytes.len();
     if len < at {
-        return not_taken(Reason::OffsetTooGreat, len);
+        return Err(Refusal::new(Reason::OffsetTooGreat, len));
     }
     if len <= at {
-        return not_taken(Reason::RecordIncomplete, at);
+        return Err(Refusal::new(Reason::RecordIncomplete, at));
     }
     let kind = bytes[at];
     let size = size_of(kind);
     if size == 0 {
-        return not_taken(Reason::KindUnknown, at);
+        return Err(Refusal::new(Reason::KindUnknown, at));
     }
     if len - at < size {
-        return not_taken(Reason::RecordIncomplete, at);
+        return Err(Refusal::new(Reason::RecordIncomplete, at));
     }
     let next = at + size;
     let item = read::record(bytes, at + 1, kind);
-    Taken::Record(item, next)
+    Ok((item, next))
 }
 
-// The record's bytes written at an offset of the buffer, and nothing else, where they fit.
-pub fn put(item: Record, buffer: &mut [u8], at: usize) -> Written
+// The record's bytes written at an offset of the buffer, and nothing else, where they fit; the answer is the offset behind them.
+pub fn put(item: Record, buffer: &mut [u8], at: usize) -> Result<usize, Refusal>
     ensures answer { written_outcome result ≡ (put_at item buffer.old at).answer }
     ensures buffer { buffer.new ≡ (put_at item buffer.old at).buffer }
     ensures back { ReadBack item result buffer.new at }
 {
     let len = buffer.len();
     if len < at {
-        return not_written(Reason::OffsetTooGreat, len);
+        return Err(Refusal::new(Reason::OffsetTooGreat, len));
     }
     let room = len - at;
     let size = size_of(kind_of(item));
     if room < size {
-        return not_written(Reason::BufferTooShort, size);
+        return Err(Refusal::new(Reason::BufferTooShort, size));
     }
     let next = at + size;
     write::record(&mut buffer[at..], item);
-    Written::Next(next)
-}
-
-// A refusal to take.
-fn not_taken(reason: Reason, place: usize) -> Taken
-    ensures { taken_outcome result ≡ refuse reason place }
-{
-    Taken::Refused(Refusal {
-        reason: reason,
-        place: place,
-    })
-}
-
-// A refusal to put.
-fn not_written(reason: Reason, place: usize) -> Written
-    ensures { written_outcome result ≡ refuse reason place }
-{
-    Written::Refused(Refusal {
-        reason: reason,
-        place: place,
-    })
+    Ok(next)
 }
 
 // The length of a record of a kind, or 0 where there is no such kind.

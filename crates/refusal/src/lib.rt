@@ -3,6 +3,7 @@
 
 ghost use Rattle.std.specs.Prelude.{◌≡◌};
 ghost use Rattle.refusal.specs.Number.{number_of};
+ghost use Rattle.refusal.specs.Outcome.{about};
 
 // The condition under which a call is refused: one for each number of 01's list, in its order, but for 35, which no call gives (02, E7),
 // and then those of 02.
@@ -56,6 +57,50 @@ pub enum Which {
     Second,
     // No key: the refusal is about the two together, the point or the sheet.
     Neither,
+}
+
+// A refusal by a call that takes two keys, and the key that it is about.
+#[derive(Clone, Copy)]
+pub struct PairRefusal {
+    pub key: Which,
+    pub refusal: Refusal,
+}
+
+impl Refusal {
+    // The refusal for a reason at a place.
+    pub fn new(reason: Reason, place: usize) -> Refusal
+        ensures { result ≡ record { reason = reason; place = place } }
+    {
+        Refusal { reason, place }
+    }
+
+    // The same by a call that takes two keys, about the first, the second or neither.
+    pub fn of_first(self) -> PairRefusal
+        ensures { result ≡ about self Which.First }
+    {
+        PairRefusal {
+            key: Which::First,
+            refusal: self,
+        }
+    }
+
+    pub fn of_second(self) -> PairRefusal
+        ensures { result ≡ about self Which.Second }
+    {
+        PairRefusal {
+            key: Which::Second,
+            refusal: self,
+        }
+    }
+
+    pub fn of_neither(self) -> PairRefusal
+        ensures { result ≡ about self Which.Neither }
+    {
+        PairRefusal {
+            key: Which::Neither,
+            refusal: self,
+        }
+    }
 }
 
 impl Reason {

@@ -1,4 +1,6 @@
 -- What is printed, by what check and evaluate answer and by what the input holds.
+use Rattle.refusal.specs.declared.Refusal.{Refusal}
+use Rattle.std.specs.Prelude.{Result, Ok}
 use Prim.Native.Nat.{ℕ, ◌+◌, ◌*◌, ◌≤◌, ◌<◌}
 use mathlib.Core.List.{List, ◌++◌}
 use mathlib.Core.Path.{◌≡◌, refl, sym, ap, ◌∙◌}
@@ -21,9 +23,10 @@ use Rattle.evaluation.specs.Inner.{sheet_values}
 use Rattle.evaluation.specs.Sheet.{places_of}
 use Rattle.evaluation.proofs.EvaluatePromises.{at_most_1024}
 use Rattle.evaluation.proofs.SheetAfterEvaluate.{place-given}
-use Rattle.evaluate.specs.Answer.{values_in, evaluated_outcome}
-use Rattle.evaluate.specs.declared.Evaluated.{Evaluated}
-use Rattle.evaluate.specs.declared.Values.{Values as Answered}
+use Rattle.scalar.specs.Elements.{singles}
+use Rattle.evaluate.specs.Answer.{counted_of, evaluated_outcome}
+use Rattle.field.specs.declared.fp.Fp.{Fp}
+use Rattle.evaluate.specs.declared.Counted.{Counted as OfCall}
 use Rattle.report.specs.Input.{rows_in, columns_in, point_length, key_in}
 use Rattle.report.specs.Printed.{key_line, array_lines, key_lines, blank, evaluated_lines, sheet_lines}
 use Rattle.report.proofs.ArrayLines.{lines_same}
@@ -86,12 +89,12 @@ module _ (key rows columns : List ℕ) where
         })
 
     -- what was answered, and what it left on the sheet
-    pub evaluate-given : (answer : Evaluated) (last : Answered) (factors : ℕ) (after : List ℕ) →
+    pub evaluate-given : (answer : Result (OfCall Fp) Refusal) (last : OfCall Fp) (after : List ℕ) →
         evaluated_outcome answer ≡ (evaluated prime key rows columns blank).answer → after ≡ (evaluated prime key rows columns blank).sheet →
-        answer ≡ Evaluated.Values last factors →
+        answer ≡ Ok last →
         evaluated_lines key rows columns ≡ given (key_line (length key) counts ++ array_lines (sheet_values prime after) counts.arrays)
-    evaluate-given answer last factors after said left is =
-        let counted : Counted prime = record { values = values_in last; factors = factors } in
+    evaluate-given answer last after said left is =
+        let counted : Counted prime = counted_of singles last in
         let e : (evaluated prime key rows columns blank).answer ≡ given counted = sym said ∙ ap evaluated_outcome is in
         answered (given counted) e
         ∙ ap (λ (text : List ℕ). given (key_line (length key) counts ++ text)) (sym (sheet-lines counted e))

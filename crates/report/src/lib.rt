@@ -11,8 +11,6 @@ ghost use Rattle.report.specs.Inner.{Wrote};
 ghost use Rattle.report.specs.Printed.{evaluated_lines, refusal_line, text_of, printed};
 ghost use Rattle.io.specs.Counts.{IsPrefixLen as Within};
 
-use evaluate::Evaluated;
-use key::Checked;
 use refusal::{Reason, Refusal};
 
 // Writes what is printed for an input to the start of the text, and answers its length; the rest of the text stays. 168 bytes are
@@ -55,13 +53,7 @@ fn refused(text: &mut [u8], reason: Reason, place: usize) -> usize
     requires { 168 ≤ length text.old }
     ensures { Wrote text.old 0 (refusal_line (number_of reason) place) text.new result }
 {
-    lines::refusal(
-        text,
-        Refusal {
-            reason: reason,
-            place: place,
-        },
-    )
+    lines::refusal(text, Refusal::new(reason, place))
 }
 
 // Writes the lines for a key at a point, or evaluate's refusal, and answers their length. Inner: the text has places for the lines of
@@ -72,13 +64,12 @@ fn evaluated(text: &mut [u8], key: &[u8], rows: &[u32], columns: &[u32]) -> usiz
         text.new result }
 {
     let counts = match key::check(key) {
-        Checked::Refused(refusal) => return lines::refusal(text, refusal),
-        Checked::Accepted(counts) => counts,
+        Ok(counts) => counts,
+        Err(refusal) => return lines::refusal(text, refusal),
     };
     let mut sheet = [0u32; 3072];
-    match evaluate::evaluate(key, rows, columns, &mut sheet) {
-        Evaluated::Refused(refusal) => return lines::refusal(text, refusal),
-        Evaluated::Values(_, _) => (),
+    if let Err(refusal) = evaluate::evaluate(key, rows, columns, &mut sheet) {
+        return lines::refusal(text, refusal);
     }
     let at = lines::key(text, key.len(), counts);
     lines::arrays(text, at, &sheet, counts.arrays)

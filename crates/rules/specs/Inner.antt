@@ -1,4 +1,6 @@
 -- What the contracts of inner functions cite: it mirrors the code. No public promise rests on it.
+use Rattle.refusal.specs.declared.Refusal.{Refusal}
+use Rattle.std.specs.Prelude.{Result, Ok, Err}
 use Rattle.std.specs.Prelude.{ℕ, ◌+◌, ◌-◌, ◌≤◌, ◌<◌, Bool, true, false, cond, List, [], ◌∷◌, ◌≡◌, ltb, length, get_or}
 use Rattle.refusal.specs.declared.Reason.{Reason}
 use Rattle.records.specs.declared.Call.{Call}
@@ -7,23 +9,17 @@ use Rattle.records.specs.declared.Shape.{Shape}
 use Rattle.arrays.specs.WellFormed.{Each}
 use Rattle.rules.specs.Rules.{Rule, called_rules, call_rules, scaled_call_rules}
 use Rattle.rules.specs.declared.Opening.{Opening}
-use Rattle.rules.specs.declared.Verdict.{Verdict}
 
 -- a verdict stands where it is a refusal already, or where the rule is kept
-abbrev pub unless_broken : Verdict → Reason → Bool → ℕ → Verdict
-unless_broken (Verdict.Refused f) reason broken place = Verdict.Refused f
-unless_broken Verdict.Kept reason true place = Verdict.Refused (record { reason = reason; place = place })
-unless_broken Verdict.Kept reason false place = Verdict.Kept
+abbrev pub unless_broken : Result (Unit {0}) Refusal → Reason → Bool → ℕ → Result (Unit {0}) Refusal
+unless_broken (Err f) reason broken place = Err f
+unless_broken (Ok _) reason true place = Err (record { reason = reason; place = place })
+unless_broken (Ok _) reason false place = Ok tt
 
 -- a verdict after some rules, all at one place
-abbrev pub held_to : Verdict → ℕ → List Rule → Verdict
+abbrev pub held_to : Result (Unit {0}) Refusal → ℕ → List Rule → Result (Unit {0}) Refusal
 held_to verdict place [] = verdict
 held_to verdict place (rule ∷ rules) = held_to (unless_broken verdict rule.reason rule.broken place) place rules
-
--- whether a verdict is that the rules are kept
-abbrev pub is_kept : Verdict → Bool
-is_kept (Verdict.Refused f) = false
-is_kept Verdict.Kept = true
 
 -- rules that are all kept
 abbrev pub AllKept : List Rule → Type 0

@@ -7,7 +7,7 @@ ghost use Rattle.comparison.specs.AgreementBound.{Agreement, is_same};
 ghost use Rattle.comparison.specs.Compare.{compared};
 ghost use Rattle.shorter.specs.Shorter.{shorter_key, handed_key, EmptyBeginning, HandedBack};
 
-use compare::Compared;
+use compare::Likeness;
 use refusal::Which;
 
 // The shorter of the two lent keys itself where compare says "same" at the point, the first on a tie; the empty beginning of the first
@@ -52,9 +52,11 @@ pub fn which(first: &[u8], second: &[u8], rows: &[u32], columns: &[u32], sheet: 
     ensures agreement { Agreement prime first.now second.now }
 {
     match compare::compare(&*first, &*second, rows, columns, sheet) {
-        Compared::Same(_) => shorter_of(first, second),
-        Compared::Different(_) => Which::Neither,
-        Compared::Refused(_, _) => Which::Neither,
+        Ok(compared) => match compared.likeness {
+            Likeness::Same => shorter_of(first, second),
+            Likeness::Different => Which::Neither,
+        },
+        Err(_) => Which::Neither,
     }
 }
 

@@ -69,10 +69,8 @@ pub fn next<R: Read>(reader: &mut R) -> io::Result<u32> {
 
 // The reader's next numbers.
 pub fn fill<R: Read>(reader: &mut R, numbers: &mut [u32]) -> io::Result<()> {
-    let mut i = 0;
-    while i < numbers.len() {
-        numbers[i] = next(reader)?;
-        i += 1;
+    for number in numbers {
+        *number = next(reader)?;
     }
     Ok(())
 }

@@ -1,7 +1,7 @@
 // What was got, as text.
 use crate::input;
-use compare::Compared;
-use refusal::{Refusal, Which};
+use compare::{Compared, Likeness};
+use refusal::{PairRefusal, Refusal, Which};
 use std::io;
 use std::io::{Read, Write};
 
@@ -25,19 +25,18 @@ fn pass<R: Read, W: Write>(reader: &mut R, writer: &mut W, space: &mut [u8]) -> 
 }
 
 // Whether two keys are the same, with the factors of both, or the refusal with the key that it is about.
-pub fn compared<W: Write>(writer: &mut W, got: Compared) -> io::Result<()> {
+pub fn compared<W: Write>(writer: &mut W, got: Result<Compared, PairRefusal>) -> io::Result<()> {
     match got {
-        Compared::Same(taken) => {
-            writer.write_all(b"same")?;
-            factors(writer, taken)
+        Ok(compared) => {
+            match compared.likeness {
+                Likeness::Same => writer.write_all(b"same")?,
+                Likeness::Different => writer.write_all(b"different")?,
+            }
+            factors(writer, compared.factors)
         }
-        Compared::Different(taken) => {
-            writer.write_all(b"different")?;
-            factors(writer, taken)
-        }
-        Compared::Refused(key, r) => {
-            which(writer, key)?;
-            refusal(writer, r)
+        Err(refused) => {
+            which(writer, refused.key)?;
+            refusal(writer, refused.refusal)
         }
     }
 }
@@ -59,16 +58,10 @@ pub fn which<W: Write>(writer: &mut W, key: Which) -> io::Result<()> {
 // The places of a sheet.
 pub fn sheet<W: Write>(writer: &mut W, places: &[u32]) -> io::Result<()> {
     writer.write_all(b" sheet")?;
-    let mut i = 0;
-    while i < places.len() {
-        spaced(writer, places[i])?;
-        i += 1;
+    for place in places {
+        write!(writer, " {place}")?;
     }
     Ok(())
-}
-
-fn spaced<W: Write>(writer: &mut W, x: u32) -> io::Result<()> {
-    write!(writer, " {x}")
 }
 
 // A refusal: its number and its place.

@@ -1,11 +1,7 @@
--- The words of the field of p are numbers below p: which operations answer one, and that they obey the laws of words.
-pub mod SingleWords
 -- eq as its factors are multiplied, from the first on, over any ring.
 pub mod EqProduct
 -- A weight as its factors are multiplied, over any ring: with the weight over further bits multiplied in, and with nothing left.
 pub mod WeightProduct
--- Weights as code has them in the field of p: small numbers that are right modulo p.
-pub mod SmallWeights
 -- The factors of bits in a side's table: one is the weight over its bit alone, and four are multiplied one by one.
 pub mod TableFactors
 -- The places that the weights over so many bits of a limb take in the limb's block.
@@ -16,8 +12,8 @@ pub mod LimbWeights
 pub mod Reach
 -- A table of coordinates weighs numbers as the coordinates do: by eq of the number's bits and them.
 pub mod TableWeights
--- A table with one word, or two one behind the other, stored in it.
-pub mod StoredWords
+-- A table with two values stored in it, one behind the other.
+pub mod StoredValues
 -- The factors of single bits: as they are written, two a turn, and where two tables have them alike.
 pub mod FactorsWritten
 -- Weights over one bit more, as they are made from those over the bits behind it: two a turn.
@@ -28,5 +24,7 @@ pub mod OneLimbBlock
 pub mod AllLimbBlocks
 -- A side's table as `prepare` fills it: the factors of the coordinates, and where there are blocks the weights of limbs.
 pub mod PreparedTable
--- A table of zeros is ready to be filled.
+-- A table of one value all over is ready to be filled.
 pub mod ZeroTable
+-- Worked examples over the field of p²: the factors in a table, a weight, and eq.
+pub mod Examples

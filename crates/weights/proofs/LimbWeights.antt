@@ -10,7 +10,7 @@ use lib.Pow.{pow_pos}
 use Rattle.field.proofs.OneShifted.{one_shifted}
 use Rattle.multilinear.specs.Eq.{bitwise}
 use Rattle.multilinear.proofs.Bitwise.{bitwise-low}
-use Rattle.weights.specs.Words.{Words, LawfulWords}
+use Rattle.scalar.specs.Elements.{Elements, LawfulElements}
 use Rattle.weights.specs.Side.{element_in, pairs, Limbs, Prepared}
 use Rattle.weights.proofs.LimbSizes.{place_inside}
 
@@ -18,32 +18,28 @@ use Rattle.weights.proofs.LimbSizes.{place_inside}
 abbrev pub size : ℕ → ℕ
 size bits = (1 * 2 ^ bits) % 4294967296
 
-pub size-some : (bits : ℕ) → bits ≤ 5 → 0 < size bits
-size-some bits l = rw (one_shifted 32 bits (omega arith)) (pow_pos bits)
-
 pub offset-small : (a bits : ℕ) → bits ≤ 5 → size bits + a % size bits < 64
 offset-small a bits l = rw (one_shifted 32 bits (omega arith)) (place_inside bits (a % 2 ^ bits) l (mod-lt a (pow_pos bits)))
 
 -- a table for n bits is one for fewer
-limbs-fewer : (𝓦 : Words) (n k : ℕ) (table : List ℕ) → k ≤ n → Limbs 𝓦 n table → Limbs 𝓦 k table
-limbs-fewer 𝓦 n k table l limbs =
+limbs-fewer : {E : Type 0} (𝓔 : Elements E) (n k : ℕ) (table : List E) → k ≤ n → Limbs 𝓔 n table → Limbs 𝓔 k table
+limbs-fewer 𝓔 n k table l limbs =
     record {
       room = omega (arith, limbs.room);
       holds = λ q r b m. limbs.holds q r b (omega arith);
     }
 
-pub fewer : (𝓦 : Words) (n k : ℕ) (table : List ℕ) → k ≤ n → Prepared 𝓦 n table → Prepared 𝓦 k table
-fewer 𝓦 n k table l side =
+pub fewer : {E : Type 0} (𝓔 : Elements E) (n k : ℕ) (table : List E) → k ≤ n → Prepared 𝓔 n table → Prepared 𝓔 k table
+fewer 𝓔 n k table l side =
     record {
       few = omega (arith, side.few);
       room = side.room;
-      proper = side.proper;
-      limbs = λ long. limbs-fewer 𝓦 (n / 5) (k / 5) table (omega arith) (side.limbs long);
+      limbs = λ long. limbs-fewer 𝓔 (n / 5) (k / 5) table (omega arith) (side.limbs long);
     }
 
 -- the place of a weight over the last bits of a limb, and the weight that stands there
-module _ (𝓦 : Words) (𝓛 : LawfulWords 𝓦) (table : List ℕ) (a limb bits : ℕ) (l : bits ≤ 5) (long : 64 < length table)
-    (side : Prepared 𝓦 (5 * limb + 5) table) where
+module _ {E : Type 0} (𝓔 : Elements E) (𝓛 : LawfulElements E 𝓔) (table : List E) (a limb bits : ℕ) (l : bits ≤ 5) (long : 64 < length table)
+    (side : Prepared 𝓔 (5 * limb + 5) table) where
   blocks : limb < (5 * limb + 5) / 5
   blocks = omega arith
 
@@ -51,10 +47,10 @@ module _ (𝓦 : Words) (𝓛 : LawfulWords 𝓦) (table : List ℕ) (a limb bit
   limb-inside = omega (arith, offset-small a bits l, (side.limbs long).room, blocks)
 
   pub limb-holds :
-      element_in 𝓦 table (64 * limb + 64 + (size bits + a % size bits))
-      ≡ bitwise 𝓦.scalars.arithmetic (pairs 𝓦 table) bits (5 * limb + (5 - bits)) a
+      element_in 𝓔 table (64 * limb + 64 + (size bits + a % size bits))
+      ≡ bitwise 𝓔.scalars.arithmetic (pairs 𝓔 table) bits (5 * limb + (5 - bits)) a
   limb-holds =
       rw (one_shifted 32 bits (omega arith))
       ((side.limbs long).holds limb bits (a % 2 ^ bits) blocks l (mod-lt a (pow_pos bits))
-      ∙ sym (bitwise-low 𝓦.scalars.arithmetic 𝓛.lawful.field.ring (pairs 𝓦 table) bits (5 * limb + (5 - bits)) (a / 2 ^ bits) (a % 2 ^ bits))
-      ∙ ap (bitwise 𝓦.scalars.arithmetic (pairs 𝓦 table) bits (5 * limb + (5 - bits))) (div-add-mod' a (2 ^ bits)))
+      ∙ sym (bitwise-low 𝓔.scalars.arithmetic 𝓛.lawful.field.ring (pairs 𝓔 table) bits (5 * limb + (5 - bits)) (a / 2 ^ bits) (a % 2 ^ bits))
+      ∙ ap (bitwise 𝓔.scalars.arithmetic (pairs 𝓔 table) bits (5 * limb + (5 - bits))) (div-add-mod' a (2 ^ bits)))

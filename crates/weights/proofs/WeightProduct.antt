@@ -16,21 +16,6 @@ pub record Weighing (𝓐 : Arithmetic) (f : ℕ → ℕ → 𝓐.Carrier) (whol
 module _ (𝓐 : Arithmetic) (f : ℕ → ℕ → 𝓐.Carrier) where
   open 𝓐 use {Carrier, mul}
 
-  -- nothing is multiplied yet
-  pub weighing-start : (n : ℕ) (product : Carrier) (rest : ℕ) → Weighing 𝓐 f (mul product (bitwise 𝓐 f n 0 rest)) n product rest 0
-  weighing-start n product rest =
-      let all : n - 0 ≡ n = omega arith in
-      record { is = ap (λ (k : ℕ). mul product (bitwise 𝓐 f k 0 rest)) all; within = omega arith }
-
-  -- an element is to be multiplied by a weight
-  pub weighing-begun : (to : ℕ) (begun product : Carrier) (rest from at : ℕ) → product ≡ begun → from ≡ at → from ≤ to →
-      Weighing 𝓐 f (mul begun (bitwise 𝓐 f (to - from) from rest)) to product rest at
-  weighing-begun to begun product rest from at same here l =
-      record {
-        is = ap₂ (λ (x : Carrier) (i : ℕ). mul x (bitwise 𝓐 f (to - i) i rest)) same (sym here);
-        within = omega arith;
-      }
-
   -- the factors of the m bits that are left, counted from 0 on
   pub weighing-left : (g : ℕ → ℕ → Carrier) (whole : Carrier) (n : ℕ) (product : Carrier) (rest K m : ℕ) → m ≡ n - K →
       bitwise 𝓐 g m 0 rest ≡ bitwise 𝓐 f m K rest → Weighing 𝓐 f whole n product rest K → Weighing 𝓐 g whole m product rest 0

@@ -1,16 +1,15 @@
 // A side of a point, prepared for many weights as a table (004, 1.2: the third way): the weights that it gives.
 ghost use Rattle.std.specs.Prelude.{◌≡◌, ◌-◌, ◌^◌, ◌≤◌, ◌<◌};
-ghost use Rattle.weights.specs.Words.{singles};
 ghost use Rattle.weights.specs.Side.{Prepared, Weighs, Weighed, ForSide, Reaches};
 
 use crate::table::PLACES;
 use crate::{bits, limbs};
+use scalar::Scalar;
 
-// A weight: any small number that is the product of its factors modulo p, and how many factors there are, one for each coordinate
-// (02, E4).
+// A weight: the product of its factors, not reduced yet, and how many factors there are, one for each coordinate (02, E4).
 #[derive(Clone, Copy)]
-pub struct Weight {
-    pub product: u64,
+pub struct Weight<P> {
+    pub product: P,
     pub factors: usize,
 }
 
@@ -30,9 +29,9 @@ pub struct Reached {
 
 // The weight of a number over the first bits of a side, so many. Inner: the number has no more bits, and weights over them may be taken so
 // far.
-pub fn weigh(a: u32, table: &[u32], over: Bits) -> Weight
-    requires { (a < 2 ^ over.own) × Reaches singles table.now over.own over.to }
-    ensures { Weighed table.now a 0 over.own result }
+pub fn weigh<S: Scalar>(a: u32, table: &[S], over: Bits) -> Weight<S::Product>
+    requires { (a < 2 ^ over.own) × Reaches S.elements table.now over.own over.to }
+    ensures { Weighed S.elements table.now a 0 over.own (S.product result.product) result.factors }
 {
     Weight {
         product: first(a, table, over.to as usize),
@@ -42,9 +41,9 @@ pub fn weigh(a: u32, table: &[u32], over: Bits) -> Weight
 
 // The weight of a call's position: that over the bits from one on, where the called array ends. Inner: likewise, and the first bit is not
 // behind the last.
-pub fn factor(a: u32, table: &[u32], from: usize, over: Bits) -> Weight
-    requires { (from ≤ over.own) × (a < 2 ^ (over.own - from)) × Reaches singles table.now over.own over.to }
-    ensures { Weighed table.now a from over.own result }
+pub fn factor<S: Scalar>(a: u32, table: &[S], from: usize, over: Bits) -> Weight<S::Product>
+    requires { (from ≤ over.own) × (a < 2 ^ (over.own - from)) × Reaches S.elements table.now over.own over.to }
+    ensures { Weighed S.elements table.now a from over.own (S.product result.product) result.factors }
 {
     Weight {
         product: between(a, table, from, over.to as usize),
@@ -54,10 +53,10 @@ pub fn factor(a: u32, table: &[u32], from: usize, over: Bits) -> Weight
 
 // So many bits of a side, and how far weights over them may be taken: to the end of the last limb, which is filled up, where these are all
 // the bits of the side and its table has blocks. Inner: the table is one for the side.
-pub fn reach(bits: u8, most: u8, table: &[u32]) -> Bits
-    requires { (bits ≤ most) × ForSide singles most table.now }
+pub fn reach<S: Scalar>(bits: u8, most: u8, table: &[S]) -> Bits
+    requires { (bits ≤ most) × ForSide S.elements most table.now }
     ensures own { result.own ≡ bits }
-    ensures reached { Reaches singles table.now bits result.to }
+    ensures reached { Reaches S.elements table.now bits result.to }
 {
     if table.len() <= PLACES {
         return Bits {
@@ -78,9 +77,9 @@ pub fn reach(bits: u8, most: u8, table: &[u32]) -> Bits
 }
 
 // The product of a number's factors over the first bits of a side, up to `to`. Inner: the table is one for so many bits.
-fn first(a: u32, table: &[u32], to: usize) -> u64
-    requires { Prepared singles to table.now }
-    ensures { Weighs table.now a 0 to result }
+fn first<S: Scalar>(a: u32, table: &[S], to: usize) -> S::Product
+    requires { Prepared S.elements to table.now }
+    ensures { Weighs S.elements table.now a 0 to (S.product result) }
 {
     if table.len() <= PLACES {
         bits::bit_by_bit(a, table, 0, to)
@@ -91,9 +90,9 @@ fn first(a: u32, table: &[u32], to: usize) -> u64
 
 // The same over the bits from one up to another. Inner: likewise, and the first bit is not behind the last. (As a call of it with 0,
 // `first` would be slower: docs/PERFORMANCE.md.)
-fn between(a: u32, table: &[u32], from: usize, to: usize) -> u64
-    requires { (from ≤ to) × Prepared singles to table.now }
-    ensures { Weighs table.now a from to result }
+fn between<S: Scalar>(a: u32, table: &[S], from: usize, to: usize) -> S::Product
+    requires { (from ≤ to) × Prepared S.elements to table.now }
+    ensures { Weighs S.elements table.now a from to (S.product result) }
 {
     if table.len() <= PLACES {
         bits::bit_by_bit(a, table, from, to)

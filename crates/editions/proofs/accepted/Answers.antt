@@ -1,9 +1,10 @@
 -- `editions::accepted` meets its contract: 55, 56 and 32 in this order, then the copy.
+use Rattle.std.specs.Prelude.{Ok, Err}
 use mathlib.Core.List.{[]}
-use mathlib.Core.Path.{◌≡◌, refl}
+use mathlib.Core.Path.{◌≡◌, refl, ap}
 use native.Mathlib.Omega.{arith}
+use Rattle.refusal.specs.Outcome.{refusal_of}
 use Rattle.editions.specs.Move.{other_factors}
-use Rattle.editions.specs.declared.Copied.{Copied}
 use Rattle.editions.proofs.MovedRecords.{no_other}
 use Rattle.editions.proofs.MovingPromises.{factor-promise, length-promise, room-promise, copy-promise}
 use Rattle.editions.proofs.accepted.Goals as goal
@@ -20,18 +21,18 @@ first_other-other-requires c = (_, c.requires)
 
 pub returns-then-other-key : goal.returns-then-other-key
 returns-then-other-key c =
-    let told = factor-promise _ _ c.refused.result _ c.requires _ c.first_other-other.ensures c.if-other-key.true c.refused.ensures in
+    let told = factor-promise _ _ (Err c.new.result) _ c.requires _ c.first_other-other.ensures c.if-other-key.true (ap refusal_of c.new.ensures) in
     record { answer = told.0; buffer = told.1 }
 
 pub returns-then-len-gt65536 : goal.returns-then-len-gt65536
 returns-then-len-gt65536 c =
-    let told = length-promise _ _ c.refused-then-len-gt65536.result _ c.requires (none (goal.at.returns-then-len-gt65536 c).Else-other-key) _ c.copy_length-len.ensures c.if-len-gt65536.true c.refused-then-len-gt65536.ensures in
+    let told = length-promise _ _ (Err c.new-then-len-gt65536.result) _ c.requires (none (goal.at.returns-then-len-gt65536 c).Else-other-key) _ c.copy_length-len.ensures c.if-len-gt65536.true (ap refusal_of c.new-then-len-gt65536.ensures) in
     record { answer = told.0; buffer = told.1 }
 
 pub returns-then-buffer-len : goal.returns-then-buffer-len
 returns-then-buffer-len c =
-    let told = room-promise _ _ c.refused-then-buffer-len.result _ c.requires (none (goal.at.returns-then-buffer-len c).Else-other-key) _ c.copy_length-len.ensures c.if-len-gt65536.false c.if-buffer-len.true
-    c.refused-then-buffer-len.ensures in
+    let told = room-promise _ _ (Err c.new-then-buffer-len.result) _ c.requires (none (goal.at.returns-then-buffer-len c).Else-other-key) _ c.copy_length-len.ensures c.if-len-gt65536.false c.if-buffer-len.true
+    (ap refusal_of c.new-then-buffer-len.ensures) in
     record { answer = told.0; buffer = told.1 }
 
 pub records-requires : goal.records-requires
@@ -40,6 +41,6 @@ records-requires c =
 
 pub returns : goal.returns
 returns c =
-    let told = copy-promise _ _ (Copied.Length c.copy_length-len.result) _ c.requires (none (goal.at.returns c).Else-other-key) _ c.copy_length-len.ensures c.if-len-gt65536.false c.if-buffer-len.false refl _
+    let told = copy-promise _ _ (Ok c.copy_length-len.result) _ c.requires (none (goal.at.returns c).Else-other-key) _ c.copy_length-len.ensures c.if-len-gt65536.false c.if-buffer-len.false refl _
     c.records.ensures in
     record { answer = told.0; buffer = told.1 }

@@ -7,25 +7,25 @@ use Rattle.key.proofs.CountBounds.{cells-few, calls-few}
 use Rattle.evaluation.proofs.EvaluatePromises.{at_most_1024}
 use Rattle.morgana.specs.Reply.{check_reply}
 use Rattle.morgana.proofs.morgana_check.Goals as goal
-use Rattle.morgana.proofs.morgana_check.Goals.{In-Accepted}
+use Rattle.morgana.proofs.morgana_check.Goals.{In-Ok}
 
 -- the key is accepted where its counts are known
-accepted : (c : In-Accepted) → checked_key c.args.key.now ≡ given c.in-Accepted.counts
-accepted c = sym c.check.ensures.answer ∙ ap checked_outcome c.in-Accepted.is
+accepted : (c : In-Ok) → checked_key c.args.key.now ≡ given c.in-Ok.counts
+accepted c = sym c.check.ensures.answer ∙ ap checked_outcome c.in-Ok.is
 
 pub overflow_cast-arrays : goal.overflow_cast-arrays
-overflow_cast-arrays c = omega (arith, at_most_1024 _ _ (accepted (goal.at.overflow_cast-arrays c).In-Accepted))
+overflow_cast-arrays c = omega (arith, at_most_1024 _ _ (accepted (goal.at.overflow_cast-arrays c).In-Ok))
 
 pub overflow_cast-cells : goal.overflow_cast-cells
-overflow_cast-cells c = omega (arith, cells-few _ _ (accepted (goal.at.overflow_cast-cells c).In-Accepted))
+overflow_cast-cells c = omega (arith, cells-few _ _ (accepted (goal.at.overflow_cast-cells c).In-Ok))
 
 pub overflow_cast-calls : goal.overflow_cast-calls
-overflow_cast-calls c = omega (arith, calls-few _ _ (accepted (goal.at.overflow_cast-calls c).In-Accepted))
+overflow_cast-calls c = omega (arith, calls-few _ _ (accepted (goal.at.overflow_cast-calls c).In-Ok))
 
-pub returns-in-Accepted : goal.returns-in-Accepted
-returns-in-Accepted c = record { reply = ap check_reply (sym (accepted (goal.at.returns-in-Accepted c).In-Accepted)) }
+pub returns-in-Ok : goal.returns-in-Ok
+returns-in-Ok c = record { reply = ap check_reply (sym (accepted (goal.at.returns-in-Ok c).In-Ok)) }
 
-pub returns-in-Refused : goal.returns-in-Refused
-returns-in-Refused c =
+pub returns-in-Err : goal.returns-in-Err
+returns-in-Err c =
     rw c.number.ensures
-    (record { reply = ap check_reply (sym (ap checked_outcome c.in-Refused.is) ∙ c.check.ensures.answer) })
+    (record { reply = ap check_reply (sym (ap checked_outcome c.in-Err.is) ∙ c.check.ensures.answer) })

@@ -4,7 +4,7 @@ use mathlib.Core.Path.{◌≡◌, sym, ap, ◌∙◌}
 use native.Mathlib.Omega.{arith}
 use borrow.Rule.Slice.PartMut.{put_mid}
 use lib.ListN.{length}
-use Rattle.refusal.specs.Outcome.{given, refuse}
+use Rattle.refusal.specs.Outcome.{given, refuse, refusal_of}
 use Rattle.refusal.specs.declared.Reason.{Reason}
 use Rattle.records.specs.Inner.{size_of}
 use Rattle.records.specs.Kinds.{encoded}
@@ -18,7 +18,7 @@ use Rattle.records.proofs.put.Goals.{After-size_of-size}
 pub returns-then-len-at : goal.returns-then-len-at
 returns-then-len-at c =
     let start = c.args in
-    let told = refused-promise start.item start.buffer.now start.at _ _ _ c.not_written.ensures
+    let told = refused-promise start.item start.buffer.now start.at _ _ _ (ap refusal_of c.new.ensures)
     (offset-refused start.item start.buffer.now start.at c.if-len-at.true) in
     record { answer = told.0; buffer = told.1.0; back = told.1.1 }
 
@@ -30,7 +30,7 @@ pub returns-then-room-size : goal.returns-then-room-size
 returns-then-room-size c =
     let start = c.args in
     let told = refused-promise start.item start.buffer.now start.at _ _ _
-    (c.not_written-then-room-size.ensures ∙ ap (refuse Reason.BufferTooShort) (size (goal.at.returns-then-room-size c).After-size_of-size))
+    (ap refusal_of c.new-then-room-size.ensures ∙ ap (refuse Reason.BufferTooShort) (size (goal.at.returns-then-room-size c).After-size_of-size))
     (length-refused start.item start.buffer.now start.at c.if-len-at.false
     (rw (size (goal.at.returns-then-room-size c).After-size_of-size) at c.if-room-size.true)) in
     record { answer = told.0; buffer = told.1.0; back = told.1.1 }

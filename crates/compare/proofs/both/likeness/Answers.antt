@@ -1,26 +1,33 @@
--- `compare::both::likeness` meets its contract: A, then B, then C.
-use mathlib.Core.Path.{refl, sym}
-use Rattle.field.specs.Scalars.{prime}
-use Rattle.field.proofs.PrimeLawful.{prime-lawful}
+-- `compare::both::likeness` meets its contract: A, B and C, where equal values are one element and others are not.
+use mathlib.Core.Bool.{true}
+use mathlib.Core.Logic.{inl, inr}
+use mathlib.Core.Path.{◌≡◌, refl, sym, ◌∙◌}
+use Rattle.std.proofs.lemmas.Bool.{and_from, and_parts}
 use Rattle.arrays.specs.Arrays.{A, B, C}
-use Rattle.comparison.proofs.Likeness.{all-equal, part-differs}
+use Rattle.comparison.specs.Compare.{likeness}
+use Rattle.comparison.proofs.Likeness.{all-equal, likeness-either, same-equal}
+use Rattle.evaluate.specs.Answer.{values_of}
 use Rattle.compare.proofs.both.likeness.Goals as goal
 
-pub returns-then-value : goal.returns-then-value
-returns-then-value c = record { answer = sym (part-differs prime prime-lawful _ _ A (rw (c.value.ensures, c.value-2.ensures) at c.if-value.true)); factors = refl }
-
-pub returns-then-value-2 : goal.returns-then-value-2
-returns-then-value-2 c = record { answer = sym (part-differs prime prime-lawful _ _ B (rw (c.value-3.ensures, c.value-4.ensures) at c.if-value-2.true)); factors = refl }
-
-pub returns-then-value-3 : goal.returns-then-value-3
-returns-then-value-3 c = record { answer = sym (part-differs prime prime-lawful _ _ C (rw (c.value-5.ensures, c.value-6.ensures) at c.if-value-3.true)); factors = refl }
+pub returns-then-eq : goal.returns-then-eq
+returns-then-eq g c =
+    let (a, others) = and_parts _ _ (sym c.eq.ensures ∙ c.if-eq.true) in
+    let (b, last) = and_parts _ _ others in
+    sym (all-equal g.S.Scalar.elements.scalars g.S.Scalar.lawful.lawful _ _ (g.met.S.Scalar.same _ _ a) (g.met.S.Scalar.same _ _ b)
+    (g.met.S.Scalar.same _ _ last))
 
 pub returns : goal.returns
-returns c =
-    record {
-      answer = sym (all-equal prime prime-lawful _ _
-          (rw (c.value.ensures, c.value-2.ensures) at c.if-value.false)
-          (rw (c.value-3.ensures, c.value-4.ensures) at c.if-value-2.false)
-          (rw (c.value-5.ensures, c.value-6.ensures) at c.if-value-3.false));
-      factors = refl;
-    }
+returns g c =
+    let 𝓢 = g.S.Scalar.elements.scalars in
+    let 𝓛 = g.S.Scalar.lawful.lawful in
+    let one = values_of g.S.Scalar.elements c.args.one in
+    let other = values_of g.S.Scalar.elements c.args.other in
+    elim (likeness-either 𝓢 𝓛 one other (likeness 𝓢 one other) refl) [
+      | inl e ↦ (let equal = same-equal 𝓢 𝓛 one other e in
+          let alike : c.eq.result ≡ true =
+          c.eq.ensures
+          ∙ and_from _ _ (g.met.S.Scalar.alike _ _ (equal A))
+          (and_from _ _ (g.met.S.Scalar.alike _ _ (equal B)) (g.met.S.Scalar.alike _ _ (equal C))) in
+          cc (sym c.if-eq.false ∙ alike))
+      | inr e ↦ sym e
+    ]

@@ -1,15 +1,21 @@
-use Prim.Native.Nat.{◌-◌}
-use Rattle.field.specs.Scalars.{prime}
+use Prim.Native.Nat.{◌-◌, ◌≤◌}
+use mathlib.Core.Path.{◌≡◌}
+use lib.ListN.{length}
 use Rattle.weights.specs.Side.{prepared}
-use Rattle.weights.specs.Words.{singles}
-use Rattle.evaluation.proofs.SumOfEntries.{CallsLeft}
+use Rattle.indexed.specs.Entries.{behind}
+use Rattle.evaluation.proofs.EntriesInBytes.{CallsIn}
 use Rattle.evaluate.specs.Inner.{reduced_in}
 use Rattle.evaluate.proofs.UnreducedSums.{Bounded}
 use Rattle.evaluate.proofs.array.calls.Given as goal
 
-abbrev pub invariant-loop-at : goal.invariant-loop-at
-invariant-loop-at l =
-    CallsLeft prime l.key (prepared singles l.rowwise) (prepared singles l.columnwise) l.sheet l.i l.to (reduced_in l.sums) l.at × Bounded l.sums l.at
-
-abbrev pub decreases-loop-at : goal.decreases-loop-at
-decreases-loop-at l = l.to - l.at
+abbrev pub invariant-loop-bytes : goal.invariant-loop-bytes
+invariant-loop-bytes g l =
+    let 𝓔 = g.S.Scalar.elements in
+    let rest = l.bytes-iterator.rest.now in
+    (goal.iterator-loop-bytes g).can_next l.bytes-iterator ×
+    (goal.iterator-loop-bytes g).is_finite l.bytes-iterator ×
+    (l.bytes-iterator.size ≡ 11) ×
+    (length rest ≤ 65536) ×
+    Bounded g.S.Scalar.size l.sums (65536 - length rest) ×
+    CallsIn 𝓔.scalars l.key.bytes.now (prepared 𝓔 l.tables.rowwise.now) (prepared 𝓔 l.tables.columnwise.now) l.sheet l.i
+    (behind l.key.bytes.now l.i) (reduced_in 𝓔 g.S.Scalar.sum l.sums) rest

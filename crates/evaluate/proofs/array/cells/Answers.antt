@@ -1,86 +1,71 @@
 -- `evaluate::array::cells` meets its contract: one cell a turn.
-use Prim.Native.Nat.{◌+◌, ◌≤◌, ◌<◌}
+use Prim.Native.Nat.{ℕ, ◌<◌}
 use mathlib.Core.List.{[]}
+use mathlib.Core.Path.{◌≡◌, refl, sym, ap, subst, ◌∙◌}
 use native.Mathlib.Omega.{arith}
-use lib.ListN.{length, get_or}
-use Rattle.field.specs.Scalars.{prime}
-use Rattle.weights.specs.Words.{singles}
-use Rattle.key.specs.KeyArrays.{key_arrays}
-use Rattle.key.proofs.EntriesLeft.{entries-left}
-use Rattle.key.proofs.IndexedKey.{accepts, opening-inside}
-use Rattle.evaluation.specs.Inner.{ReachedIn}
-use Rattle.evaluation.proofs.NextEntryAdded.{cell_room, cell-fits, cell-added}
-use Rattle.evaluation.proofs.SumIsArrayValues.{cells-done}
-use Rattle.evaluation.proofs.SumOfEntries.{cells-begun}
-use Rattle.evaluate.specs.Inner.{Light}
-use Rattle.evaluate.proofs.UnreducedSums.{bounded-light, bounded-onward}
+use lib.ListN.{length, length-append}
+use Rattle.std.specs.declared.slice.ChunksExact.{ChunksExact}
+use Rattle.weights.specs.Side.{prepared}
+use Rattle.indexed.specs.Entries.{behind}
+use Rattle.indexed.proofs.ArrayEntries.{entries-stand, entries-here}
+use Rattle.evaluation.proofs.EntriesInBytes.{CellsIn, cells-in, cell-here, cell-turn, cells-over}
+use Rattle.evaluate.specs.Inner.{reduced_in}
+use Rattle.evaluate.proofs.UnreducedSums.{bounded-begun, bounded-light, bounded-onward}
 use Rattle.evaluate.proofs.array.cells.Goals as goal
-use Rattle.evaluate.proofs.array.cells.Goals.{In-loop-at, Start}
+use Rattle.evaluate.proofs.array.cells.Goals.{In-Some}
 
-module _ (a : Start) where
-  inside : a.args.i < length (key_arrays a.args.key.now)
-  inside = omega (arith, a.requires)
-
-  offset-small :
-      (get_or a.args.starts.now a.args.i 0 + 3 ≤ length a.args.key.now) × (length a.args.key.now ≤ 65536)
-  offset-small = opening-inside _ _ a.requires.indexed a.args.i inside
-
-  far : ReachedIn singles (key_arrays a.args.key.now) a.args.i a.args.reached a.args.rowwise.now a.args.columnwise.now
-  far = a.requires.reached_in
-
-pub behind-to-requires : goal.behind-to-requires
-behind-to-requires c = record { indexed = c.requires.indexed; arrays_value = c.requires.arrays_value; i_lt_arrays = c.requires.i_lt_arrays }
-
-pub offset_bounds-starts-i : goal.offset_bounds-starts-i
-offset_bounds-starts-i c =
-    omega (arith, inside (goal.at.offset_bounds-starts-i c).Start, (accepts _ _ c.requires.indexed).at_most_1024)
-
-pub bounds-starts-i : goal.bounds-starts-i
-bounds-starts-i c = omega (arith, c.requires.indexed.room, inside (goal.at.bounds-starts-i c).Start)
-
-pub overflow_cast-at : goal.overflow_cast-at
-overflow_cast-at c = omega (arith, offset-small (goal.at.overflow_cast-at c).Start)
-
-pub overflow_add-at : goal.overflow_add-at
-overflow_add-at c = omega (arith, offset-small (goal.at.overflow_add-at c).Start)
-
-pub loop-at-init : goal.loop-at-init
-loop-at-init c =
-    let left = entries-left _ _ c.requires.indexed c.args.i (inside (goal.at.loop-at-init c).Start) _ c.behind-to.ensures in (
-      λ sheet. cells-begun prime _ _ _ _ _ _ _ left c.requires.sparse,
-      record { a-bound = omega arith; b-bound = omega arith; c-bound = omega arith; factors-bound = omega arith },
+pub loop-bytes-init : goal.loop-bytes-init
+loop-bytes-init g c =
+    let 𝓔 = g.S.Scalar.elements in
+    let key = c.args.key.now in
+    let i = c.args.i in
+    let there = c.requires.i_in_bounds in
+    let gives = c.into_iter-bytes-iterator.ensures.into_iter_gives in
+    let items = c.chunks_exact-bytes-items.ensures in
+    let rest = ap (λ (chunks : ChunksExact ℕ). chunks.rest.now) gives ∙ items.rest in
+    let size = ap (λ (chunks : ChunksExact ℕ). chunks.size) gives ∙ items.size in (
+      omega (arith, size),
+      tt,
+      size,
+      omega (arith, ap (length {A = ℕ}) rest, c.entries.ensures.short),
+      bounded-begun 𝓔 g.S.Scalar.sum g.S.Scalar.size _ _ c.nothing-sums.ensures,
+      λ sheet. subst
+          (CellsIn 𝓔.scalars key.bytes.now (prepared 𝓔 c.args.tables.now.rowwise.now) (prepared 𝓔 c.args.tables.now.columnwise.now) sheet i
+          (behind key.bytes.now i) (reduced_in 𝓔 g.S.Scalar.sum c.nothing-sums.result)) (sym rest)
+          (cells-in 𝓔.scalars _ _ _ _ _ _ _ c.nothing-sums.ensures.is _ _ (entries-stand key i there _ c.entries.ensures.bytes)
+          (entries-here key i there) c.requires.sparse),
     )
 
-room : (c : In-loop-at) → c.loop-at.at + 21 ≤ length c.args.key.now
-room c =
-    cell_room prime _ _ _ _ _ _ _ _ (far c.before.before.before.before.before.before.before.before.before).row_bits (far c.before.before.before.before.before.before.before.before.before).column_bits _ _ c.loop-at-test.true (c.loop-at.invariant.0 [])
+-- in a turn: the bytes that are left are those of the cell and the others
+long : (g : _) (c : In-Some g) → length c.in-Some.bytes.now ≡ 21
+long g c = c.in-Some.ensures.steps.1.1 ∙ c.loop-bytes.invariant.2
 
-pub overflow_add-at-in-loop-at : goal.overflow_add-at-in-loop-at
-overflow_add-at-in-loop-at c = omega (arith, room c, (offset-small (goal.at.overflow_add-at-in-loop-at c).Start).1)
+fewer : (g : _) (c : In-Some g) → length c.next.new.self.rest.now < length c.loop-bytes.bytes-iterator.rest.now
+fewer g c =
+    omega (arith, long g c, ap (length {A = ℕ}) c.in-Some.ensures.steps.1.0, length-append c.in-Some.bytes.now c.next.new.self.rest.now)
 
-pub cell-c-requires : goal.cell-c-requires
-cell-c-requires c = omega (arith, room c)
+pub cell-sums-requires-clause-cell_fits : goal.cell-sums-requires-clause-cell_fits
+cell-sums-requires-clause-cell_fits g c =
+    cell-here _ _ _ _ _ _ _ _ _ c.requires.reached_in.row_bits c.requires.reached_in.column_bits _ _ _ _ 21 (omega arith)
+    (long g (goal.at.cell-sums-requires-clause-cell_fits g c).In-Some) c.in-Some.ensures.steps.1.0 (c.loop-bytes.invariant.5 []) refl _ c.cell-c.ensures
 
--- the sums have room for more
-light : (c : In-loop-at) → Light c.loop-at.sums
-light c = bounded-light _ c.loop-at.at (omega (arith, room c, (offset-small c.before.before.before.before.before.before.before.before.before).1)) c.loop-at.invariant.1
+pub cell-sums-requires-clause-light : goal.cell-sums-requires-clause-light
+cell-sums-requires-clause-light g c =
+    bounded-light g.S.Scalar.size _ _ (omega arith) c.loop-bytes.invariant.4
 
-pub cell-sums-requires : goal.cell-sums-requires
-cell-sums-requires c =
-    record { cell_fits = cell-fits prime _ _ _ _ _ _ _ _ (far (goal.at.cell-sums-requires c).Start).row_bits (far (goal.at.cell-sums-requires c).Start).column_bits _ _ c.loop-at-test.true (c.loop-at.invariant.0 []) _ c.cell-c.ensures; reaches = (far (goal.at.cell-sums-requires c).Start).rows_reached; reaches_2 = (far (goal.at.cell-sums-requires c).Start).columns_reached; light = light (goal.at.cell-sums-requires c).In-loop-at }
-
-pub overflow_add-at-in-loop-at-2 : goal.overflow_add-at-in-loop-at-2
-overflow_add-at-in-loop-at-2 c = omega (arith, room (goal.at.overflow_add-at-in-loop-at-2 c).In-loop-at, (offset-small (goal.at.overflow_add-at-in-loop-at-2 c).Start).1)
-
-pub loop-at-smaller : goal.loop-at-smaller
-loop-at-smaller c = omega (arith, c.loop-at-test.true)
-
-pub loop-at-preserved : goal.loop-at-preserved
-loop-at-preserved c = (
-  λ sheet. cell-added prime _ _ _ _ _ _ _ _ (far (goal.at.loop-at-preserved c).Start).row_bits (far (goal.at.loop-at-preserved c).Start).column_bits _ _ c.loop-at-test.true (c.loop-at.invariant.0 sheet) _
-      c.cell-c.ensures _ c.cell-sums.ensures.is,
-  bounded-onward _ _ _ _ _ (omega arith) c.cell-sums.ensures c.loop-at.invariant.1,
-)
+pub loop-bytes-preserved : goal.loop-bytes-preserved
+loop-bytes-preserved g c =
+    let at = (goal.at.loop-bytes-preserved g c).In-Some in
+    let size = c.in-Some.ensures.steps.0 ∙ c.loop-bytes.invariant.2 in (
+      omega (arith, size),
+      tt,
+      size,
+      omega (arith, fewer g at, c.loop-bytes.invariant.3),
+      bounded-onward g.S.Scalar.elements g.S.Scalar.sum g.S.Scalar.size _ _ _ _ _ (omega (arith, fewer g at, c.loop-bytes.invariant.3))
+          c.cell-sums.ensures c.loop-bytes.invariant.4,
+      λ sheet. cell-turn _ _ _ _ _ _ _ _ _ c.requires.reached_in.row_bits c.requires.reached_in.column_bits _ _ _ _ 21 (omega arith)
+          (long g at) c.in-Some.ensures.steps.1.0 (c.loop-bytes.invariant.5 sheet) refl _ c.cell-c.ensures _ c.cell-sums.ensures.is,
+    )
 
 pub returns : goal.returns
-returns c sheet = cells-done prime _ _ _ _ _ _ _ _ (omega (arith, c.loop-at-test.false)) (c.loop-at.invariant.0 sheet)
+returns g c sheet = cells-over _ _ _ _ _ _ _ _ _ (omega (arith, c.in-None.ensures.steps.1.0, c.loop-bytes.invariant.2)) (c.loop-bytes.invariant.5 sheet)

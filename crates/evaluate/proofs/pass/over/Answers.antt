@@ -1,61 +1,65 @@
 -- `evaluate::pass::over` meets its contract: one array a turn.
-use Prim.Native.Nat.{◌*◌, ◌≤◌, ◌<◌}
+use Prim.Native.Nat.{ℕ, suc, ◌*◌, ◌≤◌, ◌<◌}
 use mathlib.Core.Path.{refl, ap}
+use native.Mathlib.Nat.{mul-le-mul_left}
 use native.Mathlib.Omega.{arith}
 use lib.ListN.{length}
-use Rattle.field.specs.Scalars.{prime}
-use Rattle.field.proofs.PrimeLawful.{prime-lawful}
 use Rattle.key.specs.KeyArrays.{key_arrays}
 use Rattle.key.proofs.Acceptance.{acceptance}
 use Rattle.evaluation.specs.Evaluate.{Counted}
+use Rattle.evaluation.specs.Sheet.{places_of}
 use Rattle.evaluation.proofs.FactorsSoFar.{so-far-turn, so-far-few, so-far-all}
-use Rattle.evaluation.proofs.SheetDuringPass.{passing-begun, passing-length, passing-filled, passing-turn, passing-done}
+use Rattle.evaluation.proofs.SheetDuringPass.{passing-begun, passing-filled, passing-turn, passing-done}
 use Rattle.evaluate.proofs.pass.over.Goals as goal
-use Rattle.evaluate.proofs.pass.over.Goals.{After-put, Start}
-
-room : (a : Start) → 3 * length (key_arrays a.args.key.now) ≤ length a.args.sheet.now
-room a = omega (arith, a.requires.arrays_value, a.requires.arrays_in_bounds)
+use Rattle.evaluate.proofs.pass.over.Goals.{In-loop-i}
 
 pub loop-i-init : goal.loop-i-init
-loop-i-init c = (passing-begun prime prime-lawful _ _ _ _, refl)
+loop-i-init g c = (passing-begun g.S.Scalar.elements.scalars g.S.Scalar.lawful.lawful _ _ _ _, refl)
 
-pub values-counted-requires : goal.values-counted-requires
-values-counted-requires c =
-    let filled = passing-filled prime prime-lawful _ _ _ _ (room (goal.at.values-counted-requires c).Start) _ _ c.loop-i.invariant.0 in record { indexed = c.requires.indexed; arrays_value = c.requires.arrays_value; i_lt_arrays = c.loop-i-test.true; sides = c.requires.sides; filled = filled }
+there : (g : _) (c : In-loop-i g) → c.loop-i.i < length (key_arrays c.args.key.now.bytes.now)
+there g c = omega (arith, c.arrays-i-end.ensures.count, c.loop-i-test.true)
+
+pub values-counted-requires-clause-filled : goal.values-counted-requires-clause-filled
+values-counted-requires-clause-filled g c =
+    passing-filled g.S.Scalar.elements.scalars g.S.Scalar.lawful.lawful _ _ _ _ c.requires.room _ _ c.loop-i.invariant.0
+
+-- a sheet with places for all arrays has some for each
+places-there : (width arrays long i : ℕ) → width * arrays ≤ long → i < arrays → width * suc i ≤ long
+places-there width arrays long i room l = omega (arith, room, mul-le-mul_left width l)
 
 pub put-requires : goal.put-requires
-put-requires c =
-    omega (arith, passing-length prime prime-lawful _ _ _ _ (room (goal.at.put-requires c).Start) _ _ c.loop-i.invariant.0, c.loop-i-test.true, room (goal.at.put-requires c).Start, c.requires.arrays_value)
-
-there : (c : After-put) → c.loop-i.i < length (key_arrays c.args.key.now)
-there c = omega (arith, c.requires.arrays_value, c.loop-i-test.true)
+put-requires g c =
+    let inside = there g (goal.at.put-requires g c).In-loop-i in
+    places-there (places_of g.S.Scalar.elements.scalars) (length (key_arrays c.args.key.now.bytes.now)) _ _
+    (omega (arith, c.loop-i.auto.sheet, c.requires.room)) (omega (arith, inside))
 
 pub overflow_add-factors : goal.overflow_add-factors
-overflow_add-factors c =
+overflow_add-factors g c =
+    let key = c.args.key.now in
     omega (
       arith,
-      so-far-few c.args.key.now _ _ _ (there (goal.at.overflow_add-factors c).After-put) c.loop-i.invariant.1
-          (ap (λ (x : Counted prime). x.factors) c.values-counted.ensures) c.requires.indexed.counts c.requires.indexed.accepted,
+      so-far-few key.bytes.now _ _ _ (there g (goal.at.overflow_add-factors g c).In-loop-i) c.loop-i.invariant.1
+          (ap (λ (x : Counted g.S.Scalar.elements.scalars). x.factors) c.values-counted.ensures) key.indexed.counts key.indexed.accepted,
     )
-
-pub overflow_step-i : goal.overflow_step-i
-overflow_step-i c = omega arith
-
-pub loop-i-smaller : goal.loop-i-smaller
-loop-i-smaller c = omega arith
 
 pub loop-i-preserved : goal.loop-i-preserved
-loop-i-preserved c =
-    let next = c.values-counted.ensures in (
-      passing-turn prime prime-lawful _ _ _ _ (room (goal.at.loop-i-preserved c).Start) _ _ c.loop-i.invariant.0 _ _
-          (acceptance _ c.requires.indexed.counts c.requires.indexed.accepted).well_formed (there (goal.at.loop-i-preserved c).After-put)
-          _ _ (ap (λ (x : Counted prime). x.values) next) c.put.ensures,
-      so-far-turn c.args.key.now _ _ _ (there (goal.at.loop-i-preserved c).After-put) c.loop-i.invariant.1 (ap (λ (x : Counted prime). x.factors) next),
+loop-i-preserved g c =
+    let 𝓢 = g.S.Scalar.elements.scalars in
+    let key = c.args.key.now in
+    let next = c.values-counted.ensures in
+    let inside = there g (goal.at.loop-i-preserved g c).In-loop-i in (
+      passing-turn 𝓢 g.S.Scalar.lawful.lawful _ _ _ _ c.requires.room _ _ c.loop-i.invariant.0 _ _
+          (acceptance _ key.indexed.counts key.indexed.accepted).well_formed inside _ _
+          (ap (λ (x : Counted 𝓢). x.values) next) c.put.ensures,
+      so-far-turn key.bytes.now _ _ _ inside c.loop-i.invariant.1 (ap (λ (x : Counted 𝓢). x.factors) next),
     )
 
-pub shape_of-sheet : goal.shape_of-sheet
-shape_of-sheet c = passing-length prime prime-lawful _ _ _ _ (room (goal.at.shape_of-sheet c).Start) _ _ c.loop-i.invariant.0
-
 pub returns : goal.returns
-returns c =
-    record { factors = so-far-all c.args.key.now _ c.loop-i.i (omega (arith, c.requires.arrays_value, c.loop-i-test.false)) c.loop-i.invariant.1; sheet = passing-done prime prime-lawful _ _ _ _ (room (goal.at.returns c).Start) _ _ c.loop-i.invariant.0 _ c.requires.arrays_value (omega arith) }
+returns g c =
+    let count = c.arrays-i-end.ensures.count in
+    record {
+      factors = so-far-all c.args.key.now.bytes.now _ c.loop-i.i (omega (arith, count, c.loop-i-test.false)) c.loop-i.invariant.1;
+      sheet =
+          passing-done g.S.Scalar.elements.scalars g.S.Scalar.lawful.lawful _ _ _ _ c.requires.room _ _ c.loop-i.invariant.0 _ refl
+          (omega (arith, count, c.loop-i-test.false));
+    }

@@ -1,10 +1,6 @@
-use Prim.Native.Nat.{◌+◌, ◌*◌, ◌≤◌}
+use Prim.Native.Nat.{◌*◌, ◌≤◌}
 use Rattle.indexed.proofs.work.summed.Given as goal
 
--- what each of the arrays before i can still add is left
-abbrev pub invariant-loop-i : goal.invariant-loop-i
-invariant-loop-i l =
-    (l.bytes + 65536 * l.i ≤ 65536 * l.arrays) × (l.saved + 33423360 * l.i ≤ 33423360 * l.arrays) × (l.i ≤ l.arrays)
-
-abbrev pub decreases-loop-i : goal.decreases-loop-i
-decreases-loop-i l = l.i
+-- no more arrays have been counted than were passed, which are at most 1,024
+abbrev pub invariant-loop-back : goal.invariant-loop-back
+invariant-loop-back l = (l.back ≤ 1024) × (l.bytes ≤ 65536 * l.back) × (l.saved ≤ 33423360 * l.back)

@@ -7,8 +7,6 @@ use Rattle.key.specs.Inner.{Here, Only}
 use Rattle.key.specs.Reading.{is_end}
 use Rattle.key.proofs.BehindRuns.{opening-passed, arrays-fewer}
 use Rattle.key.proofs.WhereRunsStop.{NoneOpens, only-ends, other-kind, cut_off, opening-broken}
-use mathlib.Core.Bool.{not}
-use mathlib.Core.Path.{ap}
 use Rattle.key.proofs.run.arrays.Goals as goal
 use Rattle.key.proofs.run.arrays.Goals.{At-loop-at}
 
@@ -32,21 +30,21 @@ returns-then-kind-ne1 c =
     (λ e. c.if-kind-ne1.true (omega (arith, e)))) in
     record { here = told.0; only = told.1 }
 
-pub returns-then-not-kept : goal.returns-then-not-kept
-returns-then-not-kept c =
+pub returns-then-is_err : goal.returns-then-is_err
+returns-then-is_err c =
     let l = c.loop-at in
-    let told = standing (goal.at.returns-then-not-kept c).At-loop-at
+    let told = standing (goal.at.returns-then-is_err c).At-loop-at
     (opening-broken c.args.key.now l.s l.at c.shape-shape.result c.shape-shape.ensures
-    (told-broken l.at (opening_rules l.s.first l.s.head l.s.arrays c.shape-shape.result) c.array_opening-verdict.result c.kept.result
-    c.array_opening-verdict.ensures c.kept.ensures (ap not c.if-not-kept.true))) in
+    (told-broken l.at (opening_rules l.s.first l.s.head l.s.arrays c.shape-shape.result) c.array_opening.result c.is_err.result
+    c.array_opening.ensures c.is_err.ensures.value c.if-is_err.true)) in
     record { here = told.0; only = told.1 }
 
 pub array-behind-requires : goal.array-behind-requires
 array-behind-requires c =
     let l = c.loop-at in
     let shape = c.shape-shape.result in
-    let kept = told-kept l.at (opening_rules l.s.first l.s.head l.s.arrays shape) c.array_opening-verdict.result
-    c.kept.result c.array_opening-verdict.ensures c.kept.ensures (ap not c.if-not-kept.false) in record {
+    let kept = told-kept l.at (opening_rules l.s.first l.s.head l.s.arrays shape) c.array_opening.result
+    c.is_err.result c.array_opening.ensures c.is_err.ensures.value c.if-is_err.false in record {
       key_len_bound = c.requires.key_len_bound;
       arrays_bound = arrays-fewer l.s.first l.s.head l.s.arrays shape kept;
       here_2 = opening-passed l.invariant.1.1.0 _ shape (omega (arith, c.if-kind-ne1.false)) (omega (arith, c.if-kind-ne1.false)) refl

@@ -1,6 +1,6 @@
 -- `key::run::head` meets its contract: the walk stands behind a head that keeps its rules, and no head does where it stops before one.
 use Prim.Native.Nat.{ℕ, min, ◌/◌, ◌≤◌}
-use mathlib.Core.Bool.{true, not}
+use mathlib.Core.Bool.{true}
 use mathlib.Core.List.{List, []}
 use mathlib.Core.Logic.{◌⊎◌, inl, inr}
 use mathlib.Core.Path.{◌≡◌, refl, sym, subst}
@@ -18,7 +18,6 @@ use Rattle.key.proofs.CheckSoFar.{begins}
 use Rattle.key.proofs.RecordTried.{fails-other, fails-short, fails-broken}
 use Rattle.key.proofs.WhereRunsStop.{NoHead, only-opens-first, only-opens-next}
 use Rattle.rules.proofs.Verdicts.{told-kept, told-broken}
-use mathlib.Core.Path.{ap}
 use Rattle.key.proofs.run.head.Goals as goal
 
 -- where no head passes, the walk stands at the start
@@ -54,11 +53,11 @@ returns-then-not-scaled c =
     ) in
     record { here = told.0; only = told.1 }
 
-pub returns-then-not-kept : goal.returns-then-not-kept
-returns-then-not-kept c =
+pub returns-then-is_err : goal.returns-then-is_err
+returns-then-is_err c =
     let key = c.args.key.now in
-    let broken = told-broken 0 (head_rules true c.shape-shape.result) c.head-verdict.result c.kept.result
-    c.head-verdict.ensures c.kept.ensures (ap not c.if-not-kept.true) in
+    let broken = told-broken 0 (head_rules true c.shape-shape.result) c.head.result c.is_err.result
+    c.head.ensures c.is_err.ensures.value c.if-is_err.true in
     let told = at-start _ _ c.requires c.nothing.ensures (
       fails-broken key Record.Head (head_rules true) 0 1 (λ x. refl) shape_of (λ x. refl) c.shape-shape.result c.shape-shape.ensures broken,
       fails-broken key Record.ScaledHead (head_rules true) 0 7 (λ x. refl) shape_of (λ x. refl) c.shape-shape.result c.shape-shape.ensures
@@ -71,8 +70,8 @@ returns c =
     let key = c.args.key.now in
     let shape = c.shape-shape.result in
     let scaled = eqb (get_or key 0 0) 7 in
-    let kept = told-kept 0 (head_rules true shape) c.head-verdict.result c.kept.result c.head-verdict.ensures
-    c.kept.ensures (ap not c.if-not-kept.false) in record {
+    let kept = told-kept 0 (head_rules true shape) c.head.result c.is_err.result c.head.ensures
+    c.is_err.ensures.value c.if-is_err.false in record {
       here = λ starts room. subst (λ (s : Seen). Here key starts s 3) (sym c.headed.ensures)
           (head_passed key starts c.requires room shape (omega (arith, c.if-key-lt3.false)) c.shape-shape.ensures kept
           scaled (head-kind (get_or key 0 0) shape.rows shape.columns (elim c.else-key-ne1.branch [

@@ -1,31 +1,25 @@
 -- `locate::place::at` meets its contract: both keys are read at the bits, the first and then the second.
 use mathlib.Core.Path.{◌≡◌, sym, ap, ◌∙◌}
 use Rattle.refusal.specs.Outcome.{given}
+use Rattle.refusal.proofs.Outcomes.{ok-unless}
 use Rattle.key.specs.Check.{checked_outcome, checked_key}
 use Rattle.location.proofs.CellRead.{few-rows, few-columns, first-accepted, second-accepted, first-asks, second-asks, both_read}
 use Rattle.locate.proofs.place.at.Goals as goal
-use Rattle.locate.proofs.place.at.Goals.{In-Accepted-check}
+use Rattle.locate.proofs.place.at.Goals.{After-unwrap-other}
 
-first-told : (c : In-Accepted-check) → checked_key c.args.first.now ≡ given
-    c.in-Accepted.one
-first-told c = sym c.check.ensures.answer ∙ ap checked_outcome
-    c.in-Accepted.is
+first-told : (c : After-unwrap-other) → checked_key c.args.first.now ≡ given c.unwrap-one.result
+first-told c = sym c.check.ensures.answer ∙ ap checked_outcome c.unwrap-one.ensures
 
-second-told : (c : In-Accepted-check) → checked_key c.args.second.now ≡ given c.in-Accepted-check.other
-second-told c = sym c.check-2.ensures.answer ∙ ap checked_outcome c.in-Accepted-check.is
+second-told : (c : After-unwrap-other) → checked_key c.args.second.now ≡ given c.unwrap-other.result
+second-told c = sym c.check-2.ensures.answer ∙ ap checked_outcome c.unwrap-other.ensures
 
-pub returns-in_default : goal.returns-in_default
-returns-in_default c =
-    absurd (first-accepted _ _ _ _ c.args.sheet.now
-    c.requires _ _
-    (sym c.check.ensures.answer ∙ ap checked_outcome c.in_default.is))
+pub unwrap-one-requires : goal.unwrap-one-requires
+unwrap-one-requires c =
+    ok-unless _ (λ f e. first-accepted _ _ _ _ c.args.sheet.now c.requires _ _ (sym c.check.ensures.answer ∙ ap checked_outcome e))
 
-pub returns-in_default-check : goal.returns-in_default-check
-returns-in_default-check c =
-    absurd (second-accepted _ _ _ _
-    c.args.sheet.now
-    c.requires _ _
-    (sym c.check-2.ensures.answer ∙ ap checked_outcome c.in_default-check.is))
+pub unwrap-other-requires : goal.unwrap-other-requires
+unwrap-other-requires c =
+    ok-unless _ (λ f e. second-accepted _ _ _ _ c.args.sheet.now c.requires _ _ (sym c.check-2.ensures.answer ∙ ap checked_outcome e))
 
 pub number-row-requires : goal.number-row-requires
 number-row-requires c =
@@ -37,14 +31,14 @@ number-column-requires c =
 
 pub dense-in_first-requires : goal.dense-in_first-requires
 dense-in_first-requires c =
-    record { key_value = first-told (goal.at.dense-in_first-requires c).In-Accepted-check; serves = first-asks _ _ _ _ c.args.sheet.now c.requires _ (first-told (goal.at.dense-in_first-requires c).In-Accepted-check); below = (c.requires.are_bits, c.requires.are_bits') }
+    record { key_value = first-told (goal.at.dense-in_first-requires c).After-unwrap-other; serves = first-asks _ _ _ _ c.args.sheet.now c.requires _ (first-told (goal.at.dense-in_first-requires c).After-unwrap-other); below = (c.requires.are_bits, c.requires.are_bits') }
 
 pub dense-in_second-requires : goal.dense-in_second-requires
 dense-in_second-requires c =
     record {
-      key_value = second-told (goal.at.dense-in_second-requires c).In-Accepted-check;
-      serves = second-asks _ _ _ _ c.args.sheet.now c.requires _ (first-told (goal.at.dense-in_second-requires c).In-Accepted-check) _
-          c.dense-in_first.ensures.sheet _ (second-told (goal.at.dense-in_second-requires c).In-Accepted-check);
+      key_value = second-told (goal.at.dense-in_second-requires c).After-unwrap-other;
+      serves = second-asks _ _ _ _ c.args.sheet.now c.requires _ (first-told (goal.at.dense-in_second-requires c).After-unwrap-other) _
+          c.dense-in_first.ensures.sheet _ (second-told (goal.at.dense-in_second-requires c).After-unwrap-other);
       below = (c.requires.are_bits, c.requires.are_bits');
     }
 
@@ -52,7 +46,7 @@ pub returns : goal.returns
 returns c =
     let one = c.dense-in_first.ensures in
     let other = c.dense-in_second.ensures in
-    let told = both_read _ _ _ _ c.args.sheet.now c.requires _ (first-told (goal.at.returns c).In-Accepted-check) _ one.sheet _ (second-told (goal.at.returns c).In-Accepted-check) _ other.sheet _ _ _ _
+    let told = both_read _ _ _ _ c.args.sheet.now c.requires _ (first-told (goal.at.returns c).After-unwrap-other) _ one.sheet _ (second-told (goal.at.returns c).After-unwrap-other) _ other.sheet _ _ _ _
     c.number-row.ensures
     c.number-column.ensures one.values other.values in
     record { answer = told.0; sheet = told.1 }

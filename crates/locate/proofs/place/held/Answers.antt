@@ -1,7 +1,10 @@
 -- `locate::place::held` meets its contract.
+use Rattle.refusal.specs.declared.Refusal.{Refusal}
+use Rattle.std.specs.Prelude.{Result}
 use mathlib.Core.Path.{sym, ap, ◌∙◌}
+use Rattle.field.specs.declared.fp.Fp.{Fp}
 use Rattle.evaluate.specs.Answer.{evaluated_outcome}
-use Rattle.evaluate.specs.declared.Evaluated.{Evaluated}
+use Rattle.evaluate.specs.declared.Counted.{Counted as OfCall}
 use Rattle.location.specs.Inner.{values_of}
 use Rattle.location.proofs.KeyAtBits.{held_below, held-right, held-inside}
 use Rattle.locate.proofs.place.held.Goals as goal
@@ -16,15 +19,15 @@ returns-then-outside-2 c =
     ∙ sym (held-right _ _ _ _ (sym c.outside.ensures ∙ c.if-outside.false)
     (sym c.outside-2.ensures ∙ c.if-outside-2.true))
 
-pub returns-in-Values : goal.returns-in-Values
-returns-in-Values c =
-    ap (λ (x : Evaluated). values_of (evaluated_outcome x)) (sym c.in-Values.is)
+pub returns-in-Ok : goal.returns-in-Ok
+returns-in-Ok c =
+    ap (λ (x : Result (OfCall Fp) Refusal). values_of (evaluated_outcome x)) (sym c.in-Ok.is)
     ∙ sym (held-inside _ _ _ _ (sym c.outside.ensures ∙ c.if-outside.false)
     (sym c.outside-2.ensures ∙ c.if-outside-2.false))
 
-pub returns-in-Refused : goal.returns-in-Refused
-returns-in-Refused c =
-    c.zeros-in-Refused.ensures
-    ∙ ap (λ (x : Evaluated). values_of (evaluated_outcome x)) (sym c.in-Refused.is)
+pub returns-in-Err : goal.returns-in-Err
+returns-in-Err c =
+    c.zeros-in-Err.ensures
+    ∙ ap (λ (x : Result (OfCall Fp) Refusal). values_of (evaluated_outcome x)) (sym c.in-Err.is)
     ∙ sym (held-inside _ _ _ _ (sym c.outside.ensures ∙ c.if-outside.false)
     (sym c.outside-2.ensures ∙ c.if-outside-2.false))

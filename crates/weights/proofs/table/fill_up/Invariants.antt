@@ -1,7 +1,6 @@
 use Prim.Native.Nat.{◌≤◌}
-use Rattle.weights.specs.Words.{singles}
 use Rattle.weights.specs.Side.{FilledUp}
 use Rattle.weights.proofs.table.fill_up.Given as goal
 
 abbrev pub invariant-loop-i : goal.invariant-loop-i
-invariant-loop-i l = FilledUp singles l.initial.table l.from l.i l.table × (l.from ≤ l.i) × (l.i ≤ l.to)
+invariant-loop-i g l = FilledUp g.S.Scalar.elements l.initial.table l.from l.i l.table × (l.from ≤ l.i) × (l.i ≤ l.to)

@@ -1,5 +1,0 @@
--- `rules::head` meets its contract: each rule is tried in turn.
-use Rattle.rules.proofs.head.Goals as goal
-
-pub returns : goal.returns
-returns c = rw (c.unless-3.ensures, c.unless-2.ensures, c.unless.ensures)

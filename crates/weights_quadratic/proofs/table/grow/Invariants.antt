@@ -1,7 +1,0 @@
-use Prim.Native.Nat.{◌≤◌}
-use Rattle.weights.specs.Side.{BlockGrown}
-use Rattle.weights_quadratic.specs.Packed.{packed}
-use Rattle.weights_quadratic.proofs.table.grow.Given as goal
-
-abbrev pub invariant-loop-level : goal.invariant-loop-level
-invariant-loop-level l = BlockGrown packed l.initial.table l.block l.level l.table × (l.level ≤ 5)
