@@ -2,13 +2,12 @@
 ghost use Rattle.std.specs.Prelude.{◌<◌};
 
 use crate::{moves, pairs, print, values};
-use field::Fp;
 use records::{Call, Cell, Record, ScaledCall, Shape};
 use refusal::Refusal;
 use std::io;
 use std::io::{Read, Write};
 use testing::input;
-use testing::input::Header;
+use testing::input::{Header, Operation};
 
 // Reads a case's data and makes its call. Inner: the lengths are as the header's reader leaves them.
 pub(crate) fn call<R: Read, W: Write>(
@@ -35,33 +34,25 @@ fn on<R: Read, W: Write>(
     buffer: &mut [u8],
 ) -> io::Result<()> {
     input::data(reader, header.zeros, buffer)?;
-    let operation = header.operation;
     let at = header.x as usize;
-    match operation {
-        1 | 2 | 3 => print::answer(writer, arithmetic(header)),
-        4 => print::taken(writer, records::take(buffer, at)),
-        5 => put(writer, header, buffer),
-        6 => print::checked(writer, key::check(buffer)),
-        7 => values::at_point(reader, writer, header, buffer),
-        8 => values::at_place(reader, writer, header, buffer),
-        9 => pairs::at_point(reader, writer, header, buffer),
-        10 => pairs::at_points(reader, writer, header, buffer),
-        13 => moves::moved(writer, header, buffer),
-        14 | 15 => pairs::at_point(reader, writer, header, buffer),
-        16 => print::priced(writer, price(header, buffer)),
-        _ => Ok(()),
-    }
-}
-
-// The sum, the difference or the product of a case's operands.
-fn arithmetic(header: Header) -> Result<Fp, Refusal> {
-    let operation = header.operation;
     let a = (header.x % 4294967296) as u32;
     let b = (header.y % 4294967296) as u32;
-    match operation {
-        1 => field::sum(a, b),
-        2 => field::difference(a, b),
-        _ => field::product(a, b),
+    match header.operation {
+        Operation::Sum => print::answer(writer, field::sum(a, b)),
+        Operation::Difference => print::answer(writer, field::difference(a, b)),
+        Operation::Product => print::answer(writer, field::product(a, b)),
+        Operation::Take => print::taken(writer, records::take(buffer, at)),
+        Operation::Put => put(writer, header, buffer),
+        Operation::Check => print::checked(writer, key::check(buffer)),
+        Operation::Evaluate => values::at_point(reader, writer, header, buffer),
+        Operation::Cell => values::at_place(reader, writer, header, buffer),
+        Operation::Compare | Operation::Locate | Operation::Shorter => {
+            pairs::at_point(reader, writer, header, buffer)
+        }
+        Operation::Sweep => pairs::at_points(reader, writer, header, buffer),
+        Operation::Move => moves::moved(writer, header, buffer),
+        Operation::Price => print::priced(writer, price(header, buffer)),
+        Operation::EvaluateQuadratic | Operation::CompareQuadratic | Operation::Nothing => Ok(()),
     }
 }
 

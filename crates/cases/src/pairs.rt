@@ -3,7 +3,7 @@
 use crate::{print, tally};
 use std::io;
 use std::io::{Read, Write};
-use testing::input::Header;
+use testing::input::{Header, Operation};
 use testing::{input, output};
 
 // Compares the keys at the case's point, locates a cell in which they differ, or asks for the shorter.
@@ -59,7 +59,7 @@ pub(crate) fn at_points<R: Read, W: Write>(
 fn on<'a, R: Read, W: Write>(
     reader: &mut R,
     writer: &mut W,
-    operation: u8,
+    operation: Operation,
     first: &'a [u8],
     second: &'a [u8],
     rows: &mut [u32],
@@ -70,8 +70,8 @@ fn on<'a, R: Read, W: Write>(
     input::fill(reader, columns)?;
     input::fill(reader, sheet)?;
     match operation {
-        14 => locate(writer, first, second, rows, columns, sheet),
-        15 => shorter(writer, first, second, rows, columns, sheet),
+        Operation::Locate => locate(writer, first, second, rows, columns, sheet),
+        Operation::Shorter => shorter(writer, first, second, rows, columns, sheet),
         _ => compare(writer, first, second, rows, columns, sheet),
     }
 }

@@ -6,7 +6,7 @@ use quadratic::Fp2;
 use refusal::Refusal;
 use std::io;
 use std::io::{Read, Write};
-use testing::input::Header;
+use testing::input::{Header, Operation};
 use testing::{input, output};
 
 // Reads a case's data and makes its call. Inner: the lengths are as the header's reader leaves them.
@@ -65,10 +65,10 @@ fn at_point<R: Read, W: Write>(
     input::fill(reader, rows)?;
     input::fill(reader, columns)?;
     input::fill(reader, sheet)?;
-    if header.operation == 11 {
-        return evaluate(writer, data, rows, columns, sheet);
+    match header.operation {
+        Operation::EvaluateQuadratic => evaluate(writer, data, rows, columns, sheet),
+        _ => compare(writer, header, data, rows, columns, sheet),
     }
-    compare(writer, header, data, rows, columns, sheet)
 }
 
 // Evaluates the key, and prints the answer and the sheet afterwards.

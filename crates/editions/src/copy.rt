@@ -17,6 +17,7 @@ pub(crate) fn records(key: &[u8], buffer: &mut [u8])
     let len = key.len();
     let mut at = 0;
     let mut to = 0;
+    // by the offset, since records have no width in common
     while at < len {
         let (item, next) = records::take(key, at).unwrap();
         to = records::put(moved(item), buffer, to).unwrap();

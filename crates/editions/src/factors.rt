@@ -16,6 +16,7 @@ pub(crate) fn first_other(key: &[u8]) -> usize
         return len;
     }
     let mut at = 0;
+    // by the offset, since records have no width in common
     while at < len {
         let (item, next) = records::take(key, at).unwrap();
         if has_other(item) {

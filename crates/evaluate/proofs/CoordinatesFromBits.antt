@@ -1,8 +1,8 @@
 -- A side's coordinates as they are filled with bits, one a turn.
-use Prim.Native.Nat.{ℕ, suc, ◌+◌, ◌-◌, ◌/◌, ◌%◌, ◌≤◌, ◌<◌}
+use Prim.Native.Nat.{ℕ, zero, suc, ◌+◌, ◌-◌, ◌/◌, ◌%◌, ◌≤◌, ◌<◌}
 use mathlib.Core.Bool.{cond}
 use mathlib.Core.List.{List, [], ◌∷◌, ◌++◌, append-nil, append_assoc}
-use mathlib.Core.Path.{◌≡◌, sym, ap, ◌∙◌}
+use mathlib.Core.Path.{◌≡◌, refl, sym, ap, ◌∙◌}
 use native.Mathlib.Omega.{arith}
 use lib.Dec.{eqb}
 use lib.ListN.{length, take, set, length-set}
@@ -18,11 +18,18 @@ Filling a count coordinates rest i =
 pub filling-begun : (a count : ℕ) (coordinates : List ℕ) → length coordinates ≡ count → Filling a count coordinates a 0
 filling-begun a count coordinates e = (ap (λ (n : ℕ). bits fp n a) (let z : count - 0 ≡ count = omega arith in z), e, omega arith)
 
+-- a bit is an element of the field
+lowest : (bit : ℕ) → bit < 2 → bit ≡ cond (eqb bit 1) fp.unit fp.nought
+lowest zero l = refl
+lowest (suc zero) l = refl
+lowest (suc (suc bit)) l = absurd (omega arith)
+
 module _ (a count : ℕ) (coordinates : List ℕ) (rest i : ℕ) where
-  pub filling-turn : (bit : ℕ) → bit ≡ cond (eqb (rest % 2) 1) fp.unit fp.nought → i < count →
-      Filling a count coordinates rest i → Filling a count (set coordinates i bit) (rest / 2) (i + 1)
+  pub filling-turn : i < count → Filling a count coordinates rest i → Filling a count (set coordinates i (rest % 2)) (rest / 2) (i + 1)
   unfolding bits
-  filling-turn bit is l f =
+  filling-turn l f =
+      let bit : ℕ = rest % 2 in
+      let is : bit ≡ cond (eqb (rest % 2) 1) fp.unit fp.nought = lowest (rest % 2) (omega arith) in
       let left : count - i ≡ suc (count - (i + 1)) = omega arith in
       let one : i + 1 ≡ suc i = omega arith in (
         ap (λ (j : ℕ). take j (set coordinates i bit) ++ bits fp (count - (i + 1)) (rest / 2)) one

@@ -4,10 +4,15 @@ use mathlib.Core.List.{List, [], ◌∷◌, ◌++◌}
 use mathlib.Core.Path.{◌≡◌, sym, ap, ◌∙◌}
 use native.Mathlib.Decide.{dec_le}
 use native.Mathlib.Omega.{arith}
-use borrow.Author.Tests.{le-leb, lt-leb}
-use lib.ListN.{length, get_or, drop, drop_of_length-le}
-use lib.Seq.{drop-cons}
+use mathlib.Core.Bool.{Bool, true, false, cond, ◌&&◌}
+use borrow.Author.Tests.{le-leb, lt-leb, ltb-true, ltb-false}
+use lib.Dec.{leb, ltb}
+use lib.ListN.{length}
+use Rattle.std.specs.Prelude.{Option, None, Some, MatchOption, refl}
+use Rattle.std.specs.List.{position_or_len}
+use Rattle.std.proofs.lemmas.List.Recursion.{is_position_or_len}
 use Rattle.algebra.specs.Points.{Below}
+use Rattle.algebra.proofs.CoordinatesBelow.{below-append}
 use Rattle.field.specs.Fp.{p}
 use Rattle.judge.specs.Judged.{first_over}
 
@@ -59,22 +64,40 @@ over-second (x ∷ rows) columns l = go (dec_le p x) (over-second rows columns)
         let small : x < p = omega arith in
         later x (rows ++ columns) small ∙ ap suc (rest (omega (arith, later x rows small))) ∙ omega arith
 
--- a search from the first number on: i numbers were passed
-abbrev pub Searching : List ℕ → ℕ → Type 0
-Searching numbers i = (i + first_over (drop i numbers) ≡ first_over numbers) × (i ≤ length numbers)
+first_over-most : (numbers : List ℕ) → first_over numbers ≤ length numbers
+unfolding first_over
+first_over-most [] = omega arith
+first_over-most (x ∷ numbers) = go (leb p x) (first_over-most numbers)
+  where
+    go : (b : Bool) → first_over numbers ≤ length numbers → cond b 0 (suc (first_over numbers)) ≤ suc (length numbers)
+    go true l = omega arith
+    go false l = omega arith
 
-module _ (numbers : List ℕ) (i : ℕ) where
-  pub search-found : i < length numbers → p ≤ get_or numbers i 0 → Searching numbers i → i ≡ first_over numbers
-  search-found l over s =
-      let e = ap first_over (drop-cons numbers i 0 l) ∙ here (get_or numbers i 0) (drop (suc i) numbers) over in
-      omega (arith, e, s.0)
+-- one number more of which each is tried
+pub below-turn : (numbers : List ℕ) (x : ℕ) (before now : Bool) → now ≡ (before && ltb x p) → (before ≡ true → Below p numbers) →
+    now ≡ true → Below p (numbers ++ x ∷ [])
+below-turn numbers x true now e b t = below-append p numbers (x ∷ []) (b refl) (ltb-true x p (sym e ∙ t), tt)
+below-turn numbers x false now e b t = absurd (cc)
 
-  pub search-on : i < length numbers → get_or numbers i 0 < p → Searching numbers i → Searching numbers (i + 1)
-  search-on l below s =
-      let e = ap first_over (drop-cons numbers i 0 l) ∙ later (get_or numbers i 0) (drop (suc i) numbers) below in
-      let f : i + 1 ≡ suc i = omega arith in
-      (rw f (omega (arith, e, s.0)), omega arith)
+-- what a search answers: the index of the first number that is p or more, or that all are below p
+abbrev pub Found : List ℕ → Option ℕ → Type 0
+Found numbers r = MatchOption r (first_over numbers ≡ length numbers) (λ i. (i < length numbers) × (i ≡ first_over numbers))
 
-  pub search-ended : length numbers ≤ i → Searching numbers i → i ≡ first_over numbers
-  unfolding first_over
-  search-ended l s = omega (arith, ap first_over (drop_of_length-le numbers {i = i} l), s.0)
+pub found-none : (numbers : List ℕ) → Below p numbers → Found numbers None
+found-none numbers below = omega (arith, first_over-most numbers, all-below numbers below)
+
+pub found_by-position : (numbers : List ℕ) (r : Option ℕ) →
+    r ≡ cond (ltb (position_or_len (leb p) numbers) (length numbers)) (Some (position_or_len (leb p) numbers)) None → Found numbers r
+unfolding first_over
+found_by-position numbers r e =
+    let same : first_over numbers ≡ position_or_len (leb p) numbers = is_position_or_len first_over (leb p) refl clause numbers in
+    go (ltb (first_over numbers) (length numbers)) refl
+    (rw (← same) at e)
+  where
+    clause : (x : ℕ) (xs : List ℕ) → first_over (x ∷ xs) ≡ cond (leb p x) 0 (1 + first_over xs)
+    clause x xs = ap (cond (leb p x) 0) (let e : suc (first_over xs) ≡ 1 + first_over xs = omega arith in e)
+
+    go : (b : Bool) → ltb (first_over numbers) (length numbers) ≡ b → r ≡ cond (ltb (first_over numbers) (length numbers)) (Some (first_over numbers)) None →
+        Found numbers r
+    go true t f = rw (f, t) (ltb-true _ _ t, refl)
+    go false t f = rw (f, t) (omega (arith, ltb-false _ _ t, first_over-most numbers))

@@ -1,7 +1,7 @@
 // What a call is held to behind check's own rules (01, 'Order'): the point or the place, the sheet, and two keys together (02, E7).
 #![tactic(auto)]
 
-ghost use Rattle.std.specs.Prelude.{◌≡◌, ◌≤◌};
+ghost use Rattle.std.specs.Prelude.{◌≡◌, ◌≤◌, ◌<◌, length, MatchOption};
 ghost use Rattle.judge.specs.Inner.{FewRecords, judged};
 ghost use Rattle.judge.specs.Judged.{first_over, point_judged, place_judged, sheet_judged, together, pair_judged};
 
@@ -23,12 +23,10 @@ pub fn point(counts: Counts, width: usize, rows: &[u32], columns: &[u32]) -> Res
     if column_count != width * counts.columns as usize {
         return Err(Refusal::new(Reason::ColumnCountWrong, column_count));
     }
-    let row = first_over(rows);
-    if row < row_count {
+    if let Some(row) = first_over(rows) {
         return Err(Refusal::new(Reason::CoordinateTooGreat, row));
     }
-    let column = first_over(columns);
-    if column < column_count {
+    if let Some(column) = first_over(columns) {
         return Err(Refusal::new(Reason::CoordinateTooGreat, row_count + column));
     }
     Ok(())
@@ -60,27 +58,16 @@ pub fn sheet(counts: Counts, each: usize, places: usize) -> Result<(), Refusal>
     Ok(())
 }
 
-// The index of the first number that is p or more, or how many there are. Two are tried in a turn (docs/PERFORMANCE.md).
-fn first_over(numbers: &[u32]) -> usize
-    ensures { result ≡ first_over numbers.now }
+// The index of the first number that is p or more, if there is one. Mostly there is none, which is found without a branch for each
+// number (docs/PERFORMANCE.md).
+fn first_over(numbers: &[u32]) -> Option<usize>
+    ensures { MatchOption result (first_over numbers.now ≡ length numbers.now)
+        (λ i. (i < length numbers.now) × (i ≡ first_over numbers.now)) }
 {
-    let count = numbers.len();
-    let mut i = 0;
-    while i + 1 < count {
-        if Fp::P <= numbers[i] {
-            return i;
-        }
-        if Fp::P <= numbers[i + 1] {
-            return i + 1;
-        }
-        i += 2;
+    if numbers.iter().fold(true, |below, x| below & (*x < Fp::P)) {
+        return None;
     }
-    if i < count {
-        if Fp::P <= numbers[i] {
-            return i;
-        }
-    }
-    count
+    numbers.iter().position(|x| Fp::P <= *x)
 }
 
 // A point for two keys of these counts together, and a sheet of so many places, where an element of the field takes `width` numbers.

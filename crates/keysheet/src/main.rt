@@ -16,7 +16,8 @@ fn main(rt: HostRuntime) -> io::Result<()> {
     rt.stdout().write_all(&text[..length])
 }
 
-// Reads until a buffer is full or the reader ends or fails, and answers how many bytes were put at the buffer's start.
+// Reads until a buffer is full or the reader ends or fails, and answers how many bytes were put at the buffer's start. Crate testing's
+// own hands a failure on, which here is the end of the input.
 fn read_full<R: Read>(reader: &mut R, buffer: &mut [u8]) -> usize
     ensures { result ≤ length buffer.new }
 {

@@ -65,10 +65,8 @@ fn number(bits: &[u32]) -> u32
     ensures { result ≡ from_bits bits.now }
 {
     let mut number = 0u32;
-    let mut i = bits.len();
-    while i > 0 {
-        i = i - 1;
-        number = bits[i] + 2 * number;
+    for bit in bits.iter().rev() {
+        number = *bit + 2 * number;
     }
     number
 }

@@ -1,6 +1,5 @@
 // The way from a point at which two keys differ to a cell in which they do.
 ghost use Rattle.std.specs.Prelude.{◌++◌, ◌≡◌, ◌+◌, ◌≤◌, length, take, drop};
-ghost use Rattle.std.proofs.Math.Seq.{paste};
 ghost use Rattle.field.specs.Scalars.{prime};
 ghost use Rattle.comparison.specs.Compare.{compared};
 ghost use Rattle.location.specs.Inner.{Comparable, WrittenOver};
@@ -22,6 +21,7 @@ pub(crate) fn settle(
         settled (same_at first.now second.now row_bits sheet.old) point.old }
     ensures sheet { WrittenOver first.now second.now sheet.old sheet.new }
 {
+    // by their indices, since the whole point is lent in each turn
     let count = point.len();
     for i in 0..count {
         point[i] = 0;
@@ -54,17 +54,7 @@ pub(crate) fn join(rows: &[u32], columns: &[u32], point: &mut [u32])
     ensures { take (length rows.now + length columns.now) point.new ≡
         rows.now ++ columns.now }
 {
-    copy(rows, &mut *point, 0);
-    copy(columns, point, rows.len());
-}
-
-// Copies numbers to a place and those behind it. Inner: there are as many.
-fn copy(from: &[u32], to: &mut [u32], at: usize)
-    requires { at + length from.now ≤ length to.old }
-    ensures { to.new ≡ paste to.old at from.now (length from.now) }
-{
-    let count = from.len();
-    for i in 0..count {
-        to[at + i] = from[i];
-    }
+    let behind = rows.len();
+    point[..behind].copy_from_slice(rows);
+    point[behind..behind + columns.len()].copy_from_slice(columns);
 }

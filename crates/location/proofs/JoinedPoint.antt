@@ -1,31 +1,14 @@
 -- The coordinates of the rows and of the columns as one list.
-use Prim.Native.Nat.{ℕ, ◌+◌, ◌-◌, ◌≤◌}
-use mathlib.Core.List.{List, ◌++◌}
-use mathlib.Core.Path.{◌≡◌, sym, ap, ap₂, ◌∙◌}
-use native.Mathlib.Nat.{zero-add}
+use Prim.Native.Nat.{ℕ, ◌-◌, ◌≤◌}
+use mathlib.Core.List.{List}
+use mathlib.Core.Path.{◌≡◌}
 use native.Mathlib.Omega.{arith}
 use lib.ListN.{length, take, drop, length-drop}
-use lib.Seq.{take_all, paste, take-paste, length-paste, take-length}
+use lib.Seq.{take_all}
 use Rattle.key.proofs.Acceptance.{acceptance}
 use Rattle.location.specs.Inner.{Comparable}
 
--- they are copied one behind the other
-pub joined : (rows columns lent middle after : List ℕ) → length rows + length columns ≤ length lent →
-    middle ≡ paste lent 0 rows (length rows) → after ≡ paste middle (length rows) columns (length columns) →
-    take (length rows + length columns) after ≡ rows ++ columns
-joined rows columns lent middle after enough first-copied then-copied =
-    let long : length middle ≡ length lent =
-    ap length first-copied ∙ length-paste lent 0 rows (length rows) (omega arith) (omega arith) in
-    ap (take (length rows + length columns)) then-copied
-    ∙ take-paste middle (length rows) columns (length columns) (omega (arith, long)) (omega arith)
-    ∙ ap₂ (λ (xs ys : List ℕ). xs ++ ys)
-    (ap (take (length rows)) first-copied
-    ∙ ap (λ (k : ℕ). take k (paste lent 0 rows (length rows))) (sym (zero-add (length rows)))
-    ∙ take-paste lent 0 rows (length rows) (omega arith) (omega arith)
-    ∙ take-length rows)
-    (take-length columns)
-
--- and are at most 60
+-- they are at most 60
 pub few-coordinates : (first second : List ℕ) (n : ℕ) (point : List ℕ) (places : ℕ) → Comparable first second n point places →
     length point ≤ 60
 few-coordinates first second n point places comparable =

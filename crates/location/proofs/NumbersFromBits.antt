@@ -1,14 +1,14 @@
 -- A number and its bits.
-use Prim.Native.Nat.{ℕ, zero, suc, ◌+◌, ◌-◌, ◌*◌, ◌/◌, ◌%◌, ◌^◌, ◌≤◌, ◌<◌}
+use Prim.Native.Nat.{ℕ, zero, suc, ◌+◌, ◌*◌, ◌/◌, ◌%◌, ◌^◌, ◌≤◌, ◌<◌}
 use mathlib.Core.Bool.{cond}
-use mathlib.Core.List.{List, [], ◌∷◌}
+use mathlib.Core.List.{List, [], ◌∷◌, ◌++◌, append-nil, append_assoc}
 use mathlib.Core.Path.{◌≡◌, refl, sym, ap, ap₂, ◌∙◌}
 use native.Mathlib.Nat.{pow-suc}
 use native.Mathlib.Omega.{arith}
 use lib.Dec.{eqb}
-use lib.ListN.{length, get_or, drop, length-drop}
+use lib.ListN.{length, length-append}
 use lib.Pow.{pow_mono}
-use lib.Seq.{drop-cons}
+use Rattle.std.proofs.Math.Seq.{drop-append_seam}
 use Rattle.algebra.specs.Points.{Below}
 use Rattle.algebra.proofs.CoordinatesBelow.{below-drop}
 use Rattle.field.specs.Fp.{fp}
@@ -39,24 +39,38 @@ bits-from (bit ∷ list) below =
     lowest (suc zero) l = refl
     lowest (suc (suc b)) l = absurd (omega arith)
 
--- a bit, and the number of the bits behind it
-from_next : (list : List ℕ) (i : ℕ) → i < length list → from_bits (drop i list) ≡ get_or list i 0 + 2 * from_bits (drop (suc i) list)
+-- ---- from the highest bit down
+
+-- bits of which the first are still to come, and the number of those behind them
+pub record Coming (list coming : List ℕ) (number : ℕ) : Type 0 where
+  pub behind : List ℕ
+  pub whole : list ≡ coming ++ behind
+  pub is : number ≡ from_bits behind
+
+pub all-coming : (list : List ℕ) → Coming list list 0
 unfolding from_bits
-from_next list i l = ap from_bits (drop-cons list i 0 l)
+all-coming list = record { behind = []; whole = sym (append-nil list); is = refl }
 
--- at most 30 bits make a number below 2^30
-pub from-few : (list : List ℕ) (i : ℕ) → Below 2 list → length list ≤ 30 → from_bits (drop i list) < 2 ^ 30
-from-few list i below few =
-    omega (
-      arith,
-      from-below (drop i list) (below-drop 2 i list below),
-      pow_mono {i = length (drop i list)} {j = 30} (omega (arith, length-drop i list)),
-    )
+pub none_coming : (list coming : List ℕ) (number : ℕ) → length coming ≡ 0 → Coming list coming number → number ≡ from_bits list
+none_coming list [] number none c = c.is ∙ ap from_bits (sym c.whole)
+none_coming list (bit ∷ coming) number none c = absurd (omega arith)
 
--- a turn from the highest bit down
-pub from-turn : (list : List ℕ) (i number : ℕ) → 0 < i → i ≤ length list → number ≡ from_bits (drop i list) →
-    get_or list (i - 1) 0 + 2 * number ≡ from_bits (drop (i - 1) list)
-from-turn list i number some inside is =
-    let next : suc (i - 1) ≡ i = omega arith in
-    ap (λ (n : ℕ). get_or list (i - 1) 0 + 2 * n) (is ∙ ap (λ (j : ℕ). from_bits (drop j list)) (sym next))
-    ∙ sym (from_next list (i - 1) (omega arith))
+module _ (list coming before : List ℕ) (bit number : ℕ) (c : Coming list coming number) (is : coming ≡ before ++ bit ∷ []) where
+  whole_on : list ≡ before ++ (bit ∷ c.behind)
+  whole_on = c.whole ∙ ap (λ (xs : List ℕ). xs ++ c.behind) is ∙ append_assoc before (bit ∷ []) c.behind
+
+  is-on : bit + 2 * number ≡ from_bits (bit ∷ c.behind)
+  unfolding from_bits
+  is-on = ap (λ (n : ℕ). bit + 2 * n) c.is
+
+  pub coming-on : Coming list before (bit + 2 * number)
+  coming-on = record { behind = bit ∷ c.behind; whole = whole_on; is = is-on }
+
+  -- at most 30 bits make a number below 2^30
+  pub coming-few : Below 2 list → length list ≤ 30 → bit + 2 * number < 2 ^ 30
+  coming-few below few =
+      let behind : List ℕ = bit ∷ c.behind in
+      let there : Below 2 behind =
+      rw drop-append_seam at (below-drop 2 (length before) (before ++ behind) (rw whole_on at below)) in
+      let long : length list ≡ length before + length behind = ap length whole_on ∙ length-append before behind in
+      omega (arith, is-on, from-below behind there, pow_mono {i = length behind} {j = 30} (omega (arith, long)))

@@ -1,12 +1,12 @@
 // The numbers of a case.
 ghost use Rattle.std.specs.Prelude.{◌≤◌, IfOk, OnOk};
-ghost use Rattle.std.specs.Io.{ReadsAtMost};
 ghost use Rattle.algebra.specs.Points.{Below};
 ghost use Rattle.field.specs.Fp.{p};
 
 use field::Fp;
 use std::io;
 use std::io::Read;
+use testing::input::next;
 
 // The numbers that a case begins with.
 #[derive(Clone, Copy)]
@@ -43,31 +43,8 @@ pub(crate) fn read<R: Read>(reader: &mut R) -> io::Result<Header>
 pub(crate) fn fill<R: Read>(reader: &mut R, numbers: &mut [u32]) -> io::Result<()>
     ensures { OnOk result (Below p numbers.new) }
 {
-    let count = numbers.len();
-    for i in 0..count {
-        numbers[i] = Fp::remainder(next(reader)? as u64).value();
+    for number in numbers.iter_mut() {
+        *number = Fp::remainder(next(reader)? as u64).value();
     }
     Ok(())
-}
-
-// The number in the next four bytes.
-pub(crate) fn next<R: Read>(reader: &mut R) -> io::Result<u32> {
-    let mut bytes = [0u8; 4];
-    read_full(reader, &mut bytes)?;
-    Ok(records::read::four_bytes(&bytes, 0))
-}
-
-// Reads until a buffer is full or the reader ends, and answers how many bytes were put at the buffer's start.
-pub(crate) fn read_full<R: Read>(reader: &mut R, buffer: &mut [u8]) -> io::Result<usize>
-    ensures { ReadsAtMost result buffer.new }
-{
-    let mut done = 0;
-    while done < buffer.len() {
-        let count = reader.read(&mut buffer[done..])?;
-        if count == 0 {
-            break;
-        }
-        done += count;
-    }
-    Ok(done)
 }

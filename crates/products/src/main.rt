@@ -12,11 +12,12 @@ mod sides;
 
 use std::io;
 use std::io::{Read, Write};
+use testing::output;
 
 fn main(rt: HostRuntime) -> io::Result<()> {
     let mut reader = rt.stdin();
     let mut writer = rt.stdout();
-    let cases = input::next(&mut reader)?;
+    let cases = testing::input::next(&mut reader)?;
     for _ in 0..cases {
         run(&mut reader, &mut writer)?;
     }
@@ -27,7 +28,7 @@ fn main(rt: HostRuntime) -> io::Result<()> {
 fn run<R: Read, W: Write>(reader: &mut R, writer: &mut W) -> io::Result<()> {
     let header = input::read(reader)?;
     let mut text = [0u8; 4096];
-    print::echo(reader, writer, header.text, &mut text)?;
+    output::echo(reader, writer, header.text, &mut text)?;
     let call = header.call;
     match call {
         1 => eqs::eq(reader, writer, header.count)?,

@@ -1,54 +1,25 @@
 -- Bytes written one behind the other.
-use Prim.Native.Nat.{ℕ, suc, ◌+◌, ◌≤◌, ◌<◌}
-use mathlib.Core.List.{List, ◌++◌}
+use Prim.Native.Nat.{ℕ, ◌+◌, ◌≤◌}
+use mathlib.Core.List.{List, [], ◌++◌}
 use mathlib.Core.Path.{◌≡◌, refl, sym, ap, ap₂, ◌∙◌}
 use native.Mathlib.Omega.{arith}
-use lib.ListN.{length, get_or, set, take, drop, length-append, length-set}
-use lib.Seq.{sets, sets-eq, length-sets, take-length, paste, paste-zero, paste-suc}
+use borrow.Rule.Slice.PartMut.{put_mid}
+use lib.ListN.{length, take, drop, length-append}
+use lib.Seq.{sets, sets-eq, length-sets, take-length}
+use Rattle.std.proofs.lemmas.Slice.{put_mid-paste}
 use Rattle.evaluation.proofs.WordsOnSheet.{sets-append}
-use Rattle.report.specs.Inner.{Wrote}
+use Rattle.report.specs.Inner.{Wrote, HasRoom, Appended}
 use Rattle.report.specs.Text.{labelled}
+use Rattle.report.specs.declared.text.Text.{Text}
 use Rattle.report.proofs.Decimals.{labelled-most}
 
--- ---- one byte a turn
-
--- the first i of some bytes stand from a place on
-pub record Copying (before : List ℕ) (at : ℕ) (bytes text : List ℕ) (next i : ℕ) : Type 0 where
-  pub copied : text ≡ paste before at bytes i
-  pub reached : next ≡ at + i
-  pub within : i ≤ length bytes
-  pub long : length text ≡ length before
-
-pub copying-begun : (before : List ℕ) (at : ℕ) (bytes : List ℕ) → Copying before at bytes before at 0
-copying-begun before at bytes =
-    record { copied = paste-zero before at bytes; reached = omega arith; within = omega arith; long = refl }
-
-module _ (before : List ℕ) (at : ℕ) (bytes text : List ℕ) (next i : ℕ) (room : at + length bytes ≤ length before) where
-  pub copying-turn : i < length bytes → Copying before at bytes text next i →
-      Copying before at bytes (set text next (get_or bytes i 0)) (next + 1) (i + 1)
-  copying-turn l c =
-      let more : suc i ≡ i + 1 = omega arith in
-      record {
-        copied =
-            ap₂ (λ (t : List ℕ) (n : ℕ). set t n (get_or bytes i 0)) c.copied c.reached
-            ∙ paste-suc before at bytes i 0 (omega arith) l
-            ∙ ap (paste before at bytes) more;
-        reached = omega (arith, c.reached);
-        within = omega arith;
-        long = length-set text next (get_or bytes i 0) ∙ c.long;
-      }
-
-  pub copying-done : length bytes ≤ i → Copying before at bytes text next i → Wrote before at bytes text next
-  copying-done l c =
-      let all : i ≡ length bytes = omega (arith, c.within) in
-      record {
-        fits = room;
-        text =
-            c.copied ∙ ap (paste before at bytes) all
-            ∙ ap (λ (xs : List ℕ). take at before ++ xs ++ drop (at + length bytes) before) (take-length bytes)
-            ∙ sym (sets-eq bytes before at room);
-        behind = omega (arith, c.reached, all);
-      }
+-- a part of a text that was copied over
+pub copied : (before : List ℕ) (at count : ℕ) (bytes part : List ℕ) → at + length bytes ≤ length before → part ≡ bytes →
+    length bytes ≡ count → put_mid at count before part ≡ sets before at bytes
+copied before at count bytes part room same e =
+    put_mid-paste at count before part bytes (length bytes) same e refl
+    ∙ ap (λ (xs : List ℕ). take at before ++ xs ++ drop (at + length bytes) before) (take-length bytes)
+    ∙ sym (sets-eq bytes before at room)
 
 -- ---- one text behind another
 
@@ -67,19 +38,48 @@ wrote-more before at xs mid next ys after last w v =
       behind = omega (arith, v.behind, w.behind, length-append xs ys);
     }
 
--- a text as long as it was, and a place in it that is at most so far
-pub record Room (before : List ℕ) (most : ℕ) (after : List ℕ) (next : ℕ) : Type 0 where
-  pub reached : next ≤ most
-  pub long : length after ≡ length before
+-- nothing was written
+pub appended-none : (text : Text) → text.at ≤ length text.bytes.now → Appended text [] text
+appended-none text l = record { same = refl; wrote = record { fits = omega (arith, l); text = refl; behind = omega arith } }
 
-pub room-behind : (before : List ℕ) (most : ℕ) (mid : List ℕ) (next : ℕ) (label : List ℕ) (n : ℕ) (after : List ℕ) (last most' : ℕ) →
-    most + (length label + 20) ≤ most' → Room before most mid next → Wrote mid next (labelled label n) after last →
-    Room before most' after last
-room-behind before most mid next label n after last most' l r w =
+pub appended-more : {before mid after : Text} (xs ys : List ℕ) → Appended before xs mid → Appended mid ys after →
+    Appended before (xs ++ ys) after
+appended-more xs ys a b = record { same = b.same ∙ a.same; wrote = wrote-more _ _ xs _ _ ys _ _ a.wrote b.wrote }
+
+-- there is room behind what was written
+pub room-behind : {before after : Text} (xs : List ℕ) (most room count : ℕ) → Appended before xs after → length xs ≤ most →
+    HasRoom before room → most + count ≤ room → HasRoom after count
+room-behind xs most room count a few l r =
+    omega (arith, wrote-length _ _ xs _ _ a.wrote, a.wrote.behind, few, l, r)
+
+-- labels and numbers of which the bytes are known to be at most so many
+pub record Line (before : Text) (bytes : List ℕ) (most : ℕ) (after : Text) : Type 0 where
+  pub appended : Appended before bytes after
+  pub few : length bytes ≤ most
+
+pub begun : {before after : Text} (label : List ℕ) (n : ℕ) → Appended before (labelled label n) after →
+    Line before (labelled label n) (length label + 20) after
+begun label n a = record { appended = a; few = labelled-most label n }
+
+pub more : {before mid after : Text} (bytes : List ℕ) (most : ℕ) (label : List ℕ) (n : ℕ) → Line before bytes most mid →
+    Appended mid (labelled label n) after → Line before (bytes ++ labelled label n) (most + (length label + 20)) after
+more bytes most label n l a =
     record {
-      reached = omega (arith, l, r.reached, w.behind, labelled-most label n);
-      long = wrote-length mid next (labelled label n) after last w ∙ r.long;
+      appended = appended-more bytes (labelled label n) l.appended a;
+      few = omega (arith, length-append bytes (labelled label n), l.few, labelled-most label n);
     }
+
+pub ended : {before mid after : Text} (bytes : List ℕ) (most : ℕ) (word : List ℕ) → Line before bytes most mid →
+    Appended mid word after → Line before (bytes ++ word) (most + length word) after
+ended bytes most word l a =
+    record {
+      appended = appended-more bytes word l.appended a;
+      few = omega (arith, length-append bytes word, l.few);
+    }
+
+pub room-for : {before after : Text} (bytes : List ℕ) (most room count : ℕ) → Line before bytes most after → HasRoom before room →
+    most + count ≤ room → HasRoom after count
+room-for bytes most room count l r e = room-behind bytes most room count l.appended l.few r e
 
 -- a text from the start on
 pub wrote-whole : (before bytes after : List ℕ) (next : ℕ) → Wrote before 0 bytes after next →

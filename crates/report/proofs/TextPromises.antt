@@ -5,20 +5,18 @@ use mathlib.Core.Path.{◌≡◌, sym, ap, ap₂, ◌∙◌}
 use native.Mathlib.Omega.{arith}
 use lib.ListN.{length, take, drop, length-append, length-drop}
 use lib.Seq.{sets, length-take-le, take_all}
-use Rattle.refusal.specs.Outcome.{Outcome}
 use Rattle.report.specs.Inner.{Wrote}
 use Rattle.report.specs.Input.{row_count, column_count, numbers_in, rows_in, columns_in, point_length, key_in}
-use Rattle.report.specs.Printed.{evaluated_lines, sheet_lines, text_of, printed}
+use Rattle.report.specs.Printed.{evaluated_lines, printed}
 use Rattle.report.proofs.BytesWritten.{wrote-whole}
 use Rattle.report.proofs.Coordinates.{filled-part}
 use Rattle.io.specs.Counts.{IsPrefixLen as Within}
 
--- the three promises, where the lines of the input were written from the start on
-pub promised : (input text : List ℕ) (o : Outcome (List ℕ)) (after : List ℕ) (next : ℕ) → sheet_lines input ≡ o →
-    Wrote text 0 (text_of o) after next →
+-- the three promises, where what is printed was written from the start on
+pub promised : (input text after : List ℕ) (next : ℕ) → Wrote text 0 (printed input) after next →
     (next ≡ length (printed input)) × ((after ≡ printed input ++ drop (length (printed input)) text) × Within next after)
-promised input text o after next e w =
-    let (length-is, text-is) = wrote-whole text (printed input) after next (rw e w) in
+promised input text after next w =
+    let (length-is, text-is) = wrote-whole text (printed input) after next w in
     let within : next ≤ length after =
     omega (arith, ap length text-is, length-append (printed input) (drop (length (printed input)) text), length-is) in
     (length-is, (text-is, (within, sym (length-take-le next after within))))

@@ -5,13 +5,14 @@ mod input;
 mod lines;
 mod text;
 
-ghost use Rattle.std.specs.Prelude.{◌≡◌, ◌++◌, ◌≤◌, length, drop};
+ghost use Rattle.std.specs.Prelude.{◌≡◌, ◌++◌, length, drop};
 ghost use Rattle.refusal.specs.Number.{number_of};
-ghost use Rattle.report.specs.Inner.{Wrote};
+ghost use Rattle.report.specs.Inner.{HasRoom, Appended};
 ghost use Rattle.report.specs.Printed.{evaluated_lines, refusal_line, text_of, printed};
 ghost use Rattle.io.specs.Counts.{IsPrefixLen as Within};
 
 use refusal::{Reason, Refusal};
+use text::Text;
 
 // Writes what is printed for an input to the start of the text, and answers its length; the rest of the text stays. 168 bytes are
 // enough for the line of the key and any refusal, and 84 for the line of each of 1,024 arrays. The clause `within` follows from
@@ -21,6 +22,16 @@ pub fn write(input: &[u8], text: &mut [u8; 86184]) -> usize
     ensures text { text.new ≡
         printed input.now ++ drop (length (printed input.now)) text.old }
     ensures within { Within result text.new }
+{
+    let mut written = Text { bytes: text, at: 0 };
+    print(input, &mut written);
+    written.at
+}
+
+// Writes what is printed for an input. Inner: the text has places for the lines of 1,024 arrays.
+fn print(input: &[u8], text: &mut Text)
+    requires { HasRoom text.old 86184 }
+    ensures { Appended text.old (printed input.now) text.new }
 {
     let length = input.len();
     if 65536 < length {
@@ -48,20 +59,18 @@ pub fn write(input: &[u8], text: &mut [u8; 86184]) -> usize
     )
 }
 
-// Writes the line of the refusal for a reason at a place, and answers its length. Inner: the text has 168 places.
-fn refused(text: &mut [u8], reason: Reason, place: usize) -> usize
-    requires { 168 ≤ length text.old }
-    ensures { Wrote text.old 0 (refusal_line (number_of reason) place) text.new result }
+// Writes the line of the refusal for a reason at a place. Inner: there are 168 places.
+fn refused(text: &mut Text, reason: Reason, place: usize)
+    requires { HasRoom text.old 168 }
+    ensures { Appended text.old (refusal_line (number_of reason) place) text.new }
 {
     lines::refusal(text, Refusal::new(reason, place))
 }
 
-// Writes the lines for a key at a point, or evaluate's refusal, and answers their length. Inner: the text has places for the lines of
-// 1,024 arrays.
-fn evaluated(text: &mut [u8], key: &[u8], rows: &[u32], columns: &[u32]) -> usize
-    requires { 86184 ≤ length text.old }
-    ensures { Wrote text.old 0 (text_of (evaluated_lines key.now rows.now columns.now))
-        text.new result }
+// Writes the lines for a key at a point, or evaluate's refusal. Inner: there are places for the lines of 1,024 arrays.
+fn evaluated(text: &mut Text, key: &[u8], rows: &[u32], columns: &[u32])
+    requires { HasRoom text.old 86184 }
+    ensures { Appended text.old (text_of (evaluated_lines key.now rows.now columns.now)) text.new }
 {
     let counts = match key::check(key) {
         Ok(counts) => counts,
@@ -71,6 +80,6 @@ fn evaluated(text: &mut [u8], key: &[u8], rows: &[u32], columns: &[u32]) -> usiz
     if let Err(refusal) = evaluate::evaluate(key, rows, columns, &mut sheet) {
         return lines::refusal(text, refusal);
     }
-    let at = lines::key(text, key.len(), counts);
-    lines::arrays(text, at, &sheet, counts.arrays)
+    lines::key(text, key.len(), counts);
+    lines::arrays(text, &sheet, counts.arrays)
 }

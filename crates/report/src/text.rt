@@ -1,31 +1,34 @@
-// Words and numbers in a lent text, each behind what stands there already.
-ghost use Rattle.std.specs.Prelude.{◌+◌, ◌≤◌, length};
-ghost use Rattle.report.specs.Inner.{Wrote};
+// Words and numbers in a lent text, each behind what was written before it.
+ghost use Rattle.std.specs.Prelude.{◌+◌, length};
+ghost use Rattle.report.specs.Inner.{HasRoom, Appended};
 ghost use Rattle.report.specs.Text.{labelled};
 
-// Writes a label and a number in decimal at a place, and answers the place behind them. Inner: the text has places for the label
-// and 20 digits.
-pub(crate) fn labelled(text: &mut [u8], at: usize, label: &[u8], number: u64) -> usize
-    requires { at + length label.now + 20 ≤ length text.old }
-    ensures { Wrote text.old at (labelled label.now number) text.new result }
-{
-    let next = word(text, at, label);
-    let mut digits = [0u8; 20];
-    let count = io::decimal(number, &mut digits);
-    word(text, next, &digits[..count])
+// A lent text, and how many bytes of it are written.
+#[derive(Drop)]
+pub(crate) struct Text<'a> {
+    pub(crate) bytes: &'a mut [u8],
+    pub(crate) at: usize,
 }
 
-// Writes some bytes at a place, and answers the place behind them. Inner: the text has places for them.
-pub(crate) fn word(text: &mut [u8], at: usize, bytes: &[u8]) -> usize
-    requires { at + length bytes.now ≤ length text.old }
-    ensures { Wrote text.old at bytes.now text.new result }
-{
-    let mut next = at;
-    let mut i = 0;
-    while i < bytes.len() {
-        text[next] = bytes[i];
-        next += 1;
-        i += 1;
+impl Text<'_> {
+    // Writes a label and a number in decimal. Inner: there are places for the label and 20 digits.
+    pub(crate) fn labelled(&mut self, label: &[u8], number: u64)
+        requires { HasRoom self.old (length label.now + 20) }
+        ensures { Appended self.old (labelled label.now number) self.new }
+    {
+        self.word(label);
+        let mut digits = [0u8; 20];
+        let count = io::decimal(number, &mut digits);
+        self.word(&digits[..count]);
     }
-    next
+
+    // Writes some bytes. Inner: there are places for them.
+    pub(crate) fn word(&mut self, bytes: &[u8])
+        requires { HasRoom self.old (length bytes.now) }
+        ensures { Appended self.old bytes.now self.new }
+    {
+        let end = self.at + bytes.len();
+        self.bytes[self.at..end].copy_from_slice(bytes);
+        self.at = end;
+    }
 }

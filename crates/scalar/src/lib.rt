@@ -59,10 +59,6 @@ pub trait Scalar: Copy + Eq {
     fn one() -> Self
         ensures { elements.element result ≡ elements.scalars.arithmetic.unit };
 
-    // The element that an element of the field of p is.
-    fn embed(x: Fp) -> Self
-        ensures { elements.element result ≡ elements.scalars.embed x.number };
-
     // The sum.
     fn add(self, other: Self) -> Self
         ensures { elements.element result ≡ elements.scalars.arithmetic.add (elements.element self) (elements.element other) };

@@ -41,10 +41,6 @@ impl Scalar for Fp {
         Fp::one()
     }
 
-    fn embed(x: Fp) -> Fp {
-        x
-    }
-
     fn add(self, other: Fp) -> Fp {
         Fp::add(self, other)
     }

@@ -42,13 +42,6 @@ impl Scalar for Fp2 {
         Fp2::one()
     }
 
-    fn embed(x: Fp) -> Fp2 {
-        Fp2 {
-            u: x,
-            v: Fp::zero(),
-        }
-    }
-
     fn add(self, other: Fp2) -> Fp2 {
         Fp2::add(self, other)
     }

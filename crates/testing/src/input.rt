@@ -7,11 +7,59 @@ use records::read;
 use std::io;
 use std::io::Read;
 
+// A call that a case makes, in the order of its number, from 1 on.
+#[derive(Clone, Copy)]
+pub enum Operation {
+    Sum,
+    Difference,
+    Product,
+    Take,
+    Put,
+    Check,
+    Evaluate,
+    Cell,
+    Compare,
+    // Compare at every point of a list of values.
+    Sweep,
+    EvaluateQuadratic,
+    CompareQuadratic,
+    Move,
+    Locate,
+    Shorter,
+    Price,
+    // Any other number, which is no call.
+    Nothing,
+}
+
+impl From<u8> for Operation {
+    fn from(number: u8) -> Operation {
+        match number {
+            1 => Operation::Sum,
+            2 => Operation::Difference,
+            3 => Operation::Product,
+            4 => Operation::Take,
+            5 => Operation::Put,
+            6 => Operation::Check,
+            7 => Operation::Evaluate,
+            8 => Operation::Cell,
+            9 => Operation::Compare,
+            10 => Operation::Sweep,
+            11 => Operation::EvaluateQuadratic,
+            12 => Operation::CompareQuadratic,
+            13 => Operation::Move,
+            14 => Operation::Locate,
+            15 => Operation::Shorter,
+            16 => Operation::Price,
+            _ => Operation::Nothing,
+        }
+    }
+}
+
 // The numbers in front of a case's text and data, each of which serves the calls that need it.
 #[derive(Clone, Copy)]
 pub struct Header {
     // Which call is made.
-    pub operation: u8,
+    pub operation: Operation,
     // The length of the text.
     pub text: usize,
     // The operands or the offset of the call; of compare and locate, where the first key begins and where it ends.
@@ -43,7 +91,7 @@ fn from_bytes(bytes: &[u8; 48]) -> Header
     ensures { (result.zeros < 131072) × (result.«data» < 131072) }
 {
     Header {
-        operation: bytes[0],
+        operation: Operation::from(bytes[0]),
         text: (read::four_bytes(bytes, 1) % 65536) as usize,
         x: eight_bytes(bytes, 3),
         y: eight_bytes(bytes, 11),

@@ -1,49 +1,25 @@
 -- `locate::place::number` meets its contract: from the highest bit down, one a turn.
-use Prim.Native.Nat.{ℕ, ◌-◌}
-use mathlib.Core.Path.{◌≡◌, sym, ap, ◌∙◌}
+use mathlib.Core.Path.{◌≡◌}
+use Rattle.std.specs.Slice.Iter.{iter_rest}
 use native.Mathlib.Omega.{arith}
-use lib.ListN.{drop}
-use lib.Seq.{drop-length}
-use Rattle.location.specs.Locate.{from_bits}
-use Rattle.location.proofs.NumbersFromBits.{from-turn, from-few}
+use Rattle.location.proofs.NumbersFromBits.{all-coming, none_coming, coming-on, coming-few}
 use Rattle.locate.proofs.place.number.Goals as goal
 
-pub loop-i-init : goal.loop-i-init
-unfolding from_bits
-loop-i-init c = (sym (ap from_bits (drop-length c.args.bits.now)), omega arith)
-
-pub overflow_sub-i : goal.overflow_sub-i
-overflow_sub-i c = omega arith
-
-pub offset_bounds-bits-i : goal.offset_bounds-bits-i
-offset_bounds-bits-i c = omega arith
-
-pub bounds-bits-i : goal.bounds-bits-i
-bounds-bits-i c = omega (arith, c.loop-i.invariant.1)
+pub loop-bit-init : goal.loop-bit-init
+loop-bit-init c =
+    let all : iter_rest c.into_iter-bit-iterator.result.iter ≡ c.args.bits.now = cc in
+    rw all (all-coming _)
 
 pub overflow_mul-number : goal.overflow_mul-number
 overflow_mul-number c =
-    let at = c.loop-i in
-    omega (arith, at.invariant.0, from-few c.args.bits.now at.i c.requires.0 c.requires.1)
+    omega (arith, coming-few _ _ _ _ _ c.loop-bit.invariant c.in-Some.ensures.steps c.requires.0 c.requires.1)
 
 pub overflow_add-number : goal.overflow_add-number
 overflow_add-number c =
-    let at = c.loop-i in
-    omega (
-      arith,
-      from-turn c.args.bits.now at.i at.number (omega arith) at.invariant.1 at.invariant.0,
-      from-few c.args.bits.now (at.i - 1) c.requires.0 c.requires.1,
-    )
+    omega (arith, coming-few _ _ _ _ _ c.loop-bit.invariant c.in-Some.ensures.steps c.requires.0 c.requires.1)
 
-pub loop-i-smaller : goal.loop-i-smaller
-loop-i-smaller c = omega arith
-
-pub loop-i-preserved : goal.loop-i-preserved
-loop-i-preserved c =
-    let at = c.loop-i in
-    (from-turn c.args.bits.now at.i at.number (omega arith) at.invariant.1 at.invariant.0, omega arith)
+pub loop-bit-preserved : goal.loop-bit-preserved
+loop-bit-preserved c = coming-on _ _ _ _ _ c.loop-bit.invariant c.in-Some.ensures.steps
 
 pub returns : goal.returns
-returns c =
-    let none : c.loop-i.i ≡ 0 = omega arith in
-    c.loop-i.invariant.0 ∙ ap (λ (i : ℕ). from_bits (drop i c.args.bits.now)) none
+returns c = none_coming _ _ _ c.in-None.ensures.steps.0 c.loop-bit.invariant

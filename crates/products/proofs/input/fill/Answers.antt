@@ -3,4 +3,4 @@ use Rattle.products.proofs.FilledNumbers.{filling-done}
 use Rattle.products.proofs.input.fill.Goals as goal
 
 pub returns : goal.returns
-returns g c = filling-done _ _ _ c.loop-i-test.false c.loop-i.invariant
+returns g c = filling-done _ _ _ c.loop-number-test.false c.loop-number.invariant

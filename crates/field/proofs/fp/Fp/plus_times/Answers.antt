@@ -11,15 +11,6 @@ fits : (number other : ℕ) → number < 8589934592 → other < p → number * o
 fits number other l l' =
     let m : number ≤ 8589934591 = omega arith in let m' : other ≤ 2147483646 = omega arith in omega (arith, mul-le-mul m m')
 
-pub overflow_mul-product : goal.overflow_mul-product
-overflow_mul-product c = omega (arith, fits _ _ c.requires.1 c.args.other.below)
-
-pub folded-requires : goal.folded-requires
-folded-requires c = tt
-
-pub overflow_add-result : goal.overflow_add-result
-overflow_add-result c = omega (arith, c.requires.0, c.folded.ensures.1, fits _ _ c.requires.1 c.args.other.below)
-
 -- what is added is the product modulo p
 is : (c : goal.After-folded) → c.folded.result % p ≡ (c.args.number % p * c.args.other.number) % p
 is c = c.folded.ensures.0 ∙ sym (mod-mul-mod _ _ p)
