@@ -1,8 +1,7 @@
 // The passes over two keys at one point, whose sides are prepared once for both.
-ghost use Rattle.std.specs.Mem.{type_size};
 ghost use Rattle.std.specs.Prelude.{◌≡◌, ◌+◌, ◌≤◌, length};
 ghost use Rattle.weights.specs.Side.{Ready};
-ghost use Rattle.evaluate.specs.Answer.{values_of};
+ghost use Rattle.evaluate.specs.AnswerOver.{values_of};
 ghost use Rattle.comparison.specs.Compare.{likeness};
 ghost use Rattle.comparison.specs.Inner.{Evaluable, factors_at, likeness_at, both_written};
 ghost use Rattle.compare.specs.Answer.{likeness_answer};
@@ -16,7 +15,7 @@ use weights::table;
 
 // Whether the two keys' three values are equal at a point, and how many factors were taken for both. The sheet ends with those of the
 // second key's arrays over those of the first's. Weights of limbs are prepared where they are estimated to save more, in both keys
-// together, than they cost (`work`). Inner: both keys can be evaluated at the point on the sheet, and an element takes few bytes.
+// together, than they cost (`work`). Inner: both keys can be evaluated at the point on the sheet.
 pub(crate) fn run<S: Scalar>(
     first: &IndexedKey<'_>,
     first_counts: Counts,
@@ -26,7 +25,6 @@ pub(crate) fn run<S: Scalar>(
     columns: &[u32],
     sheet: &mut [u32],
 ) -> Compared
-    requires few_bytes { type_size S.row ≤ 16 }
     requires evaluable { Evaluable S.elements.scalars first.now.bytes.now first_counts rows.now columns.now (length sheet.old) }
     requires evaluable_2 { Evaluable S.elements.scalars second.now.bytes.now second_counts rows.now columns.now (length sheet.old) }
     ensures answer { likeness_answer result.likeness ≡

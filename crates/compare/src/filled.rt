@@ -2,7 +2,7 @@
 ghost use Rattle.std.specs.Prelude.{◌≡◌, ◌+◌, ◌-◌, ◌≤◌, length};
 ghost use Rattle.weights.specs.Side.{prepared, Tabled, ForSide};
 ghost use Rattle.evaluation.specs.Inner.{written_by};
-ghost use Rattle.evaluate.specs.Answer.{values_of};
+ghost use Rattle.evaluate.specs.AnswerOver.{values_of};
 ghost use Rattle.comparison.specs.Filled.{multiplied, filled_values};
 ghost use Rattle.comparison.specs.Inner.{Evaluable, factors_at, unused_by};
 

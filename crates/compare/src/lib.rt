@@ -4,7 +4,6 @@
 mod both;
 mod filled;
 
-ghost use Rattle.std.specs.Mem.{type_size};
 ghost use Rattle.std.specs.Prelude.{◌≡◌, min, ◌/◌, ◌≤◌, length};
 ghost use Rattle.field.specs.Scalars.{prime};
 ghost use Rattle.comparison.specs.AgreementBound.{Agreement};
@@ -61,7 +60,7 @@ pub fn compare(
     over::<Fp>(first, second, rows, columns, sheet)
 }
 
-// The same over any field. Inner: an element takes few bytes.
+// The same over any field.
 pub fn over<S: Scalar>(
     first: &[u8],
     second: &[u8],
@@ -69,7 +68,6 @@ pub fn over<S: Scalar>(
     columns: &[u32],
     sheet: &mut [u32],
 ) -> Result<Compared, PairRefusal>
-    requires { type_size S.row ≤ 16 }
     ensures answer { compared_answer result ≡
         (compared S.elements.scalars first.now second.now rows.now columns.now sheet.old
         ).answer }
@@ -121,7 +119,6 @@ fn by_tables<S: Scalar>(
     first_starts: &mut [u16],
     second_starts: &mut [u16],
 ) -> Result<Compared, PairRefusal>
-    requires few_bytes { type_size S.row ≤ 16 }
     requires first_in_bounds { min 1024 (length first.now / 3) ≤ length first_starts.old }
     requires second_in_bounds { min 1024 (length second.now / 3) ≤ length second_starts.old }
     ensures answer { compared_answer result ≡

@@ -7,7 +7,8 @@ use Rattle.field.specs.declared.fp.Fp.{Fp}
 use Rattle.field.proofs.EqualElements.{fp-equal}
 use Rattle.scalar.specs.Elements.{Elements, singles}
 use Rattle.evaluation.specs.Evaluate.{ValuesOf, Counted}
-use Rattle.evaluate.specs.Answer.{values_of, counted_of, answer_outcome, evaluated_outcome}
+use Rattle.evaluate.specs.Answer.{evaluated_outcome}
+use Rattle.evaluate.specs.AnswerOver.{values_of, counted_of, answer_outcome}
 use Rattle.evaluate.specs.declared.Counted.{Counted as OfCall}
 use Rattle.evaluate.specs.declared.Values.{Values as Answered}
 

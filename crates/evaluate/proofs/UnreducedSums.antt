@@ -8,30 +8,30 @@ use Rattle.evaluation.specs.Inner.{added_to}
 use Rattle.evaluate.specs.Inner.{reduced_in, Begun, Light, Grown}
 use Rattle.evaluate.specs.declared.entry.Sums.{Sums}
 
--- sums of which each has grown by less than 2^35 for each byte before an offset, and the factors by at most 60
-pub record Bounded {T : Type 0} (size : T → ℕ) (sums : Sums T) (at : ℕ) : Type 0 where
-  pub a-bound : size sums.a ≤ 34359738368 * at
-  pub b-bound : size sums.b ≤ 34359738368 * at
-  pub c-bound : size sums.c ≤ 34359738368 * at
+-- sums of which each number has grown by less than 2^34 for each byte before an offset, and the factors by at most 60
+pub record Bounded {T : Type 0} (size : T → ℕ → ℕ) (sums : Sums T) (at : ℕ) : Type 0 where
+  pub a-bound : (i : ℕ) → size sums.a i ≤ 17179869184 * at
+  pub b-bound : (i : ℕ) → size sums.b i ≤ 17179869184 * at
+  pub c-bound : (i : ℕ) → size sums.c i ≤ 17179869184 * at
   pub factors-bound : sums.factors ≤ 60 * at
 
-module _ {T : Type 0} (size : T → ℕ) where
+module _ {T : Type 0} (size : T → ℕ → ℕ) where
   pub bounded-light : (sums : Sums T) (at : ℕ) → at ≤ 65536 → Bounded size sums at → Light size sums
   bounded-light sums at l b =
       record {
-        a_light = omega (arith, b.a-bound);
-        b_light = omega (arith, b.b-bound);
-        c_light = omega (arith, b.c-bound);
+        a_light = λ i. omega (arith, b.a-bound i);
+        b_light = λ i. omega (arith, b.b-bound i);
+        c_light = λ i. omega (arith, b.c-bound i);
         factors_light = omega (arith, b.factors-bound);
       }
 
-module _ {E T : Type 0} (𝓔 : Elements E) (sum : T → 𝓔.scalars.arithmetic.Carrier) (size : T → ℕ) where
+module _ {E T : Type 0} (𝓔 : Elements E) (sum : T → 𝓔.scalars.arithmetic.Carrier) (size : T → ℕ → ℕ) where
   pub bounded-begun : (sums : Sums T) (at : ℕ) → Begun 𝓔 sum size sums → Bounded size sums at
   bounded-begun sums at b =
       record {
-        a-bound = omega (arith, b.a_none);
-        b-bound = omega (arith, b.b_none);
-        c-bound = omega (arith, b.c_none);
+        a-bound = λ i. omega (arith, b.a_none i);
+        b-bound = λ i. omega (arith, b.b_none i);
+        c-bound = λ i. omega (arith, b.c_none i);
         factors-bound = omega (arith, ap (λ (x : Counted 𝓔.scalars). x.factors) b.is);
       }
 
@@ -39,15 +39,16 @@ module _ {E T : Type 0} (𝓔 : Elements E) (sum : T → 𝓔.scalars.arithmetic
       Grown 𝓔 sum size sums counted more → Bounded size sums at → Bounded size more next
   bounded-onward sums more counted at next l g b =
       record {
-        a-bound = omega (arith, b.a-bound, g.a_most);
-        b-bound = omega (arith, b.b-bound, g.b_most);
-        c-bound = omega (arith, b.c-bound, g.c_most);
+        a-bound = λ i. omega (arith, b.a-bound i, g.a_most i);
+        b-bound = λ i. omega (arith, b.b-bound i, g.b_most i);
+        c-bound = λ i. omega (arith, b.c-bound i, g.c_most i);
         factors-bound = omega (arith, b.factors-bound, g.factors_most);
       }
 
   -- a sum that is another with an element added to it, and has not grown too much
   abbrev pub More : T → 𝓔.scalars.arithmetic.Carrier → T → Type 0
-  More before x more = (sum more ≡ 𝓔.scalars.arithmetic.add (sum before) x) × (size more < size before + 34359738368)
+  More before x more =
+      (sum more ≡ 𝓔.scalars.arithmetic.add (sum before) x) × ((i : ℕ) → size more i < size before i + 17179869184)
 
   pub grown : (sums : Sums T) (values : ValuesOf 𝓔.scalars) (weight : 𝓔.scalars.arithmetic.Carrier) (factors : ℕ) (more : Sums T) →
       More sums.a (𝓔.scalars.arithmetic.mul values.a weight) more.a → More sums.b (𝓔.scalars.arithmetic.mul values.b weight) more.b →

@@ -4,7 +4,7 @@ ghost use Rattle.arrays.specs.Arrays.{array_at};
 ghost use Rattle.key.specs.KeyArrays.{key_arrays, key_scaled};
 ghost use Rattle.key.specs.Indexed.{Sparse, Recursive};
 ghost use Rattle.evaluation.specs.Inner.{Sides, ReachedIn, Filled, next_by};
-ghost use Rattle.evaluate.specs.Answer.{counted_of};
+ghost use Rattle.evaluate.specs.AnswerOver.{counted_of};
 ghost use Rattle.evaluate.specs.Inner.{reduced_in};
 
 use crate::entry::Sums;

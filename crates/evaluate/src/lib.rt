@@ -8,13 +8,13 @@ pub mod pass;
 mod point;
 mod sheet;
 
-ghost use Rattle.std.specs.Mem.{type_size};
 ghost use Rattle.std.specs.Prelude.{◌≡◌, min, ◌/◌, ◌≤◌, length};
 ghost use Rattle.field.specs.Scalars.{prime};
 ghost use Rattle.key.specs.Factors.{FactorsLimited};
 ghost use Rattle.evaluation.specs.Cell.{celled};
 ghost use Rattle.evaluation.specs.Evaluate.{evaluated};
-ghost use Rattle.evaluate.specs.Answer.{answer_outcome, evaluated_outcome};
+ghost use Rattle.evaluate.specs.Answer.{evaluated_outcome};
+ghost use Rattle.evaluate.specs.AnswerOver.{answer_outcome};
 
 use field::Fp;
 use indexed::IndexedKey;
@@ -55,14 +55,13 @@ pub fn evaluate(
     over(key, rows, columns, sheet)
 }
 
-// The same over any field. Inner: an element takes few bytes.
+// The same over any field.
 pub fn over<S: Scalar>(
     key: &[u8],
     rows: &[u32],
     columns: &[u32],
     sheet: &mut [u32],
 ) -> Result<Counted<S>, Refusal>
-    requires { type_size S.row ≤ 16 }
     ensures answer { answer_outcome S.elements result ≡
         (evaluated S.elements.scalars key.now rows.now columns.now sheet.old).answer }
     ensures sheet { sheet.new ≡
@@ -88,16 +87,15 @@ fn at_point<S: Scalar>(
     sheet: &mut [u32],
     starts: &mut [u16],
 ) -> Result<Counted<S>, Refusal>
-    requires few_bytes { type_size S.row ≤ 16 }
-    requires room { min 1024 (length key.now / 3) ≤ length starts.old }
+    requires { min 1024 (length key.now / 3) ≤ length starts.old }
     ensures answer { answer_outcome S.elements result ≡
         (evaluated S.elements.scalars key.now rows.now columns.now sheet.old).answer }
     ensures sheet { sheet.new ≡
         (evaluated S.elements.scalars key.now rows.now columns.now sheet.old).sheet }
 {
-    let counts = key::index(&*key, starts)?;
-    judge::point(counts, S::WIDTH, &*rows, &*columns)?;
-    judge::sheet(counts, 3 * S::WIDTH, sheet.len())?;
+    let checked = key::index(&*key, starts);
+    let pointed = judge::point(checked, S::WIDTH, &*rows, &*columns);
+    let counts = judge::sheet(pointed, 3 * S::WIDTH, sheet.len())?;
     let indexed = IndexedKey::new(&*key, starts, counts.arrays);
     let factors = pass::run::<S>(&indexed, &*rows, &*columns, sheet);
     Ok(Counted {
@@ -133,9 +131,9 @@ fn at_place(
     ensures answer { evaluated_outcome result ≡ (celled key.now row column sheet.old).answer }
     ensures sheet { sheet.new ≡ (celled key.now row column sheet.old).sheet }
 {
-    let counts = key::index(&*key, starts)?;
-    judge::place(counts, row, column)?;
-    judge::sheet(counts, 3, sheet.len())?;
+    let checked = key::index(&*key, starts);
+    let placed = judge::place(checked, row, column);
+    let counts = judge::sheet(placed, 3, sheet.len())?;
     let mut rows = [0u32; 30];
     let mut columns = [0u32; 30];
     point::bits(row, &mut rows);

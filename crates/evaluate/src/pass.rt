@@ -1,5 +1,4 @@
 // One pass over the arrays of an accepted key (004, Lemma 2).
-ghost use Rattle.std.specs.Mem.{type_size};
 ghost use Rattle.std.specs.Prelude.{◌≡◌, ◌*◌, ◌-◌, ◌<◌, ◌≤◌, length};
 ghost use Rattle.weights.specs.Side.{Ready};
 ghost use Rattle.key.specs.Factors.{key_factors};
@@ -7,7 +6,7 @@ ghost use Rattle.key.specs.KeyArrays.{key_arrays};
 ghost use Rattle.judge.specs.Inner.{AtPoint};
 ghost use Rattle.evaluation.specs.Inner.{Sides, Filled, sheet_values, passed_by, written_by};
 ghost use Rattle.evaluation.specs.Sheet.{places_of};
-ghost use Rattle.evaluate.specs.Answer.{values_of};
+ghost use Rattle.evaluate.specs.AnswerOver.{values_of};
 
 use crate::{Values, array, sheet};
 use indexed::{IndexedKey, work};
@@ -25,7 +24,7 @@ pub struct Tables<'a, S> {
 
 // Writes every array's values on the sheet, the extensions of their dense matrices, and answers how many factors were taken. The sides of
 // the point are prepared with weights of limbs where these are estimated to save more than they cost (`work`). Inner: the point is one for
-// the key, the sheet has places for all, and an element takes few bytes.
+// the key, and the sheet has places for all.
 //
 // What is lent is borrowed anew where it is handed on, as in `at_point`.
 pub fn run<S: Scalar>(
@@ -34,7 +33,6 @@ pub fn run<S: Scalar>(
     columns: &[u32],
     sheet: &mut [u32],
 ) -> usize
-    requires few_bytes { type_size S.row ≤ 16 }
     requires at_point { AtPoint S.elements.scalars key.now.bytes.now rows.now columns.now }
     requires room { places_of S.elements.scalars * length (key_arrays key.now.bytes.now) ≤ length sheet.old }
     ensures factors { result ≡ key_factors key.now.bytes.now }

@@ -2,11 +2,28 @@
 ghost use Rattle.std.specs.Prelude.{◌≡◌, ◌+◌, ◌*◌, ◌/◌, ◌%◌, ◌<◌, ◌≤◌};
 ghost use Rattle.field.specs.Fp.{p, fp};
 
+use std::marker::Model;
+
 // An element of the field: a number below p.
 #[derive(Clone, Copy, PartialEq, Eq)]
-pub struct Fp {
-    number: u32,
-    pub ghost below: { number < p },
+pub struct Fp(u32);
+
+impl Model for Fp {
+    ghost use Rattle.std.specs.Prelude.{◌<◌};
+    ghost use Rattle.field.specs.Fp.{p};
+    ghost use Rattle.field.specs.Element.{Element, element_of, element_code, below-itself};
+
+    ghost Value = { Element };
+
+    ghost coded = { element_code };
+
+    ghost view = { λ x. element_of x.0 };
+
+    ghost invariant = { λ x. x.0 < p };
+
+    ghost inverse = { λ e. record { 0 = e.number } };
+
+    ghost inverse_ok = { λ x l t. record { 0 = below-itself l t } };
 }
 
 impl Fp {
@@ -21,41 +38,39 @@ impl Fp {
         requires { number < p }
         ensures { result.number ≡ number }
     {
-        Fp { number: number }
+        Fp(number)
     }
 
     // The element 0.
     pub fn zero() -> Fp
         ensures { result.number ≡ fp.nought }
     {
-        Fp { number: 0 }
+        Fp(0)
     }
 
     // The element 1.
     pub fn one() -> Fp
         ensures { result.number ≡ fp.unit }
     {
-        Fp { number: 1 }
+        Fp(1)
     }
 
     // The number that the element is.
     pub fn value(self) -> u32
         ensures { result ≡ self.number }
     {
-        self.number
+        self.0
     }
 
     // The sum.
     pub fn add(self, other: Fp) -> Fp
         ensures { result.number ≡ fp.add self.number other.number }
     {
-        let total = self.number + other.number;
+        let total = self.0 + other.0;
         if total < Fp::P {
-            Fp { number: total }
+            Fp(total)
         } else {
-            Fp {
-                number: total - Fp::P,
-            }
+            Fp(total - Fp::P)
         }
     }
 
@@ -63,14 +78,10 @@ impl Fp {
     pub fn sub(self, other: Fp) -> Fp
         ensures { result.number ≡ fp.sub self.number other.number }
     {
-        if other.number <= self.number {
-            Fp {
-                number: self.number - other.number,
-            }
+        if other.0 <= self.0 {
+            Fp(self.0 - other.0)
         } else {
-            Fp {
-                number: self.number + (Fp::P - other.number),
-            }
+            Fp(self.0 + (Fp::P - other.0))
         }
     }
 
@@ -78,7 +89,7 @@ impl Fp {
     pub fn mul(self, other: Fp) -> Fp
         ensures { result.number ≡ fp.mul self.number other.number }
     {
-        Fp::reduced(Fp::folded((self.number as u64) * (other.number as u64)))
+        Fp::reduced(Fp::folded((self.0 as u64) * (other.0 as u64)))
     }
 
     // A number that is the same modulo p, and smaller: 2^31 is 1 modulo p, so that the bits from bit 31 on are added to those below.
@@ -94,7 +105,7 @@ impl Fp {
         requires { number < 8589934592 }
         ensures { (result % p ≡ fp.mul (number % p) other.number) × (result + number / 1073741824 ≤ number + 2147483647) }
     {
-        Fp::folded(number * (other.number as u64))
+        Fp::folded(number * (other.0 as u64))
     }
 
     // A number that is the sum modulo p of a number and such a product, which is folded before it is added: the number grows by less than
@@ -103,7 +114,7 @@ impl Fp {
         requires { (sum < 9223372036854775808) × (number < 8589934592) }
         ensures { (result % p ≡ fp.add (sum % p) (fp.mul (number % p) other.number)) × (result < sum + 17179869184) }
     {
-        let product = number * (other.number as u64);
+        let product = number * (other.0 as u64);
         sum + Fp::folded(product)
     }
 
@@ -128,8 +139,6 @@ impl Fp {
         ensures { result.number ≡ number % p }
     {
         let next = number + 1;
-        Fp {
-            number: (next / Fp::FOLD + next % Fp::FOLD - 1) as u32,
-        }
+        Fp((next / Fp::FOLD + next % Fp::FOLD - 1) as u32)
     }
 }

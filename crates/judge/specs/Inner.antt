@@ -1,5 +1,5 @@
 -- What the contracts of inner functions cite. No public promise rests on it.
-use Rattle.std.specs.Prelude.{Result, ℕ, ◌*◌, ◌≤◌, List, ◌≡◌, length}
+use Rattle.std.specs.Prelude.{Result, Ok, Err, ℕ, ◌*◌, ◌≤◌, List, ◌≡◌, length}
 use Rattle.refusal.specs.Outcome.{Outcome, given, outcome_of}
 use Rattle.refusal.specs.declared.Refusal.{Refusal}
 use Rattle.algebra.specs.Points.{Below}
@@ -11,6 +11,11 @@ use Rattle.key.specs.declared.Counts.{Counts}
 -- what a judgement of a key of these counts answers: the counts, where nothing is refused
 abbrev pub judged : Counts → Result (Unit {0}) Refusal → Outcome Counts
 judged counts = outcome_of (λ _. counts)
+
+-- an accepted key has at most 1,024 arrays
+abbrev pub FewArrays : Result Counts Refusal → Type 0
+FewArrays (Ok counts) = counts.arrays ≤ 1024
+FewArrays (Err f) = Unit {0}
 
 -- so few arrays, cells and calls that those of two keys add up; every accepted key has no more (`few-records` in
 -- proofs/KeysTogether.antt)

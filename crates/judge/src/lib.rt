@@ -2,16 +2,33 @@
 #![tactic(auto)]
 
 ghost use Rattle.std.specs.Prelude.{◌≡◌, ◌≤◌, ◌<◌, length, MatchOption};
-ghost use Rattle.judge.specs.Inner.{FewRecords, judged};
+ghost use Rattle.refusal.specs.Outcome.{and_then};
+ghost use Rattle.key.specs.Check.{checked_outcome};
+ghost use Rattle.judge.specs.Inner.{FewArrays, FewRecords, judged};
 ghost use Rattle.judge.specs.Judged.{first_over, point_judged, place_judged, sheet_judged, together, pair_judged};
 
 use field::Fp;
 use key::Counts;
 use refusal::{Reason, Refusal};
 
-// The numbers of rows and columns that a point must have for a key of these counts, where a coordinate takes `width` numbers, and that each
-// is below p. Inner: a coordinate takes at most two.
-pub fn point(counts: Counts, width: usize, rows: &[u32], columns: &[u32]) -> Result<(), Refusal>
+// The numbers of rows and columns that a point must have, where a coordinate takes `width` numbers, and that each is below p. What is
+// refused already is handed on. Inner: a coordinate takes at most two.
+pub fn point(
+    checked: Result<Counts, Refusal>,
+    width: usize,
+    rows: &[u32],
+    columns: &[u32],
+) -> Result<Counts, Refusal>
+    requires { width ≤ 2 }
+    ensures { checked_outcome result ≡ and_then (checked_outcome checked) (point_judged width rows.now columns.now) }
+{
+    let counts = checked?;
+    point_of(counts, width, rows, columns)?;
+    Ok(counts)
+}
+
+// A point for a key of these counts. Inner: likewise.
+fn point_of(counts: Counts, width: usize, rows: &[u32], columns: &[u32]) -> Result<(), Refusal>
     requires { width ≤ 2 }
     ensures { judged counts result ≡ point_judged width rows.now columns.now counts }
 {
@@ -32,8 +49,17 @@ pub fn point(counts: Counts, width: usize, rows: &[u32], columns: &[u32]) -> Res
     Ok(())
 }
 
-// The row and the column of a place in the last array of a key of these counts.
-pub fn place(counts: Counts, row: u32, column: u32) -> Result<(), Refusal>
+// The row and the column of a place in the last array. What is refused already is handed on.
+pub fn place(checked: Result<Counts, Refusal>, row: u32, column: u32) -> Result<Counts, Refusal>
+    ensures { checked_outcome result ≡ and_then (checked_outcome checked) (place_judged row column) }
+{
+    let counts = checked?;
+    place_of(counts, row, column)?;
+    Ok(counts)
+}
+
+// A place for a key of these counts.
+fn place_of(counts: Counts, row: u32, column: u32) -> Result<(), Refusal>
     ensures { judged counts result ≡ place_judged row column counts }
 {
     if rules::outside(counts.rows, row) {
@@ -45,9 +71,23 @@ pub fn place(counts: Counts, row: u32, column: u32) -> Result<(), Refusal>
     Ok(())
 }
 
-// The number of places that a sheet must have for a key of these counts, where an array takes `each` of them. Inner: it takes at most six,
-// and the key has no more arrays than a key may have.
-pub fn sheet(counts: Counts, each: usize, places: usize) -> Result<(), Refusal>
+// The number of places that a sheet must have, where an array takes `each` of them. What is refused already is handed on. Inner: an array
+// takes at most six, and the key has no more arrays than a key may have.
+pub fn sheet(
+    checked: Result<Counts, Refusal>,
+    each: usize,
+    places: usize,
+) -> Result<Counts, Refusal>
+    requires { (each ≤ 6) × FewArrays checked }
+    ensures { checked_outcome result ≡ and_then (checked_outcome checked) (sheet_judged each places) }
+{
+    let counts = checked?;
+    sheet_of(counts, each, places)?;
+    Ok(counts)
+}
+
+// A sheet of so many places for a key of these counts. Inner: likewise.
+fn sheet_of(counts: Counts, each: usize, places: usize) -> Result<(), Refusal>
     requires { (each ≤ 6) × (counts.arrays ≤ 1024) }
     ensures { judged counts result ≡ sheet_judged each places counts }
 {
@@ -79,13 +119,14 @@ pub fn pair(
     rows: &[u32],
     columns: &[u32],
     places: usize,
-) -> Result<(), Refusal>
+) -> Result<Counts, Refusal>
     requires { (width ≤ 2) × FewRecords one × FewRecords other }
-    ensures { judged (together one other) result ≡ pair_judged width rows.now columns.now places one other }
+    ensures { checked_outcome result ≡ pair_judged width rows.now columns.now places one other }
 {
     let both = together(one, other);
-    point(both, width, rows, columns)?;
-    sheet(both, 3 * width, places)
+    point_of(both, width, rows, columns)?;
+    sheet_of(both, 3 * width, places)?;
+    Ok(both)
 }
 
 // What two keys of these counts are judged by together. Inner: the counts are those of keys.

@@ -60,7 +60,10 @@ pub fn index(key: &[u8], starts: &mut [u16]) -> Result<Counts, Refusal>
     let begun = run::head(key);
     let reached = run::arrays(key, starts, begun.seen, begun.at);
     let at = reached.at;
-    let (item, next) = records::take(key, at)?;
+    let taken = records::take(key, at);
+    let Ok((item, next)) = taken else {
+        return Err(taken.unwrap_err());
+    };
     judge::record(reached.seen, key, starts, at, next, item)?;
     Ok(seen::counts(reached.seen))
 }

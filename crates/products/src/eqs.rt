@@ -31,8 +31,9 @@ pub(crate) fn eq_quadratic<R: Read, W: Write>(
     let mut x = [0u32; 60];
     let mut y = [0u32; 60];
     let product = of_lists::<Fp2, R>(reader, &mut x[0..2 * count], &mut y[0..2 * count])?;
-    print::element(writer, product.value.u)?;
-    print::element(writer, product.value.v)?;
+    let (u, v) = (product.value.u, product.value.v);
+    print::element(writer, u)?;
+    print::element(writer, v)?;
     print::count(writer, product.factors)
 }
 

@@ -10,5 +10,7 @@ pub mod QuadraticLawful
 pub mod TwoByTwo
 -- How large sums of two products are.
 pub mod UnreducedSizes
+-- How large the parts of a sum are, by their index.
+pub mod PartSizes
 -- Worked examples: products, the sizes of the two fields, and numbers two by two.
 pub mod Examples

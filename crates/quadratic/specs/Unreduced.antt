@@ -1,5 +1,5 @@
 -- What the contracts of functions on elements with unreduced parts cite. No public promise rests on it.
-use Rattle.std.specs.Prelude.{ℕ, ◌+◌, ◌/◌, ◌%◌, ◌≤◌, ◌<◌}
+use Rattle.std.specs.Prelude.{ℕ, zero, suc, ◌+◌, ◌/◌, ◌%◌, ◌≤◌, ◌<◌}
 use Rattle.field.specs.Fp.{p}
 use Rattle.quadratic.specs.Fp2.{TwoParts}
 use Rattle.quadratic.specs.declared.unreduced.Unreduced.{Unreduced}
@@ -20,6 +20,7 @@ Under n x = (x.u < n) × (x.v < n)
 abbrev pub FoldedFrom : Wide → Wide → Type 0
 FoldedFrom x y = (y.u ≤ x.u / 2147483648 + 2147483647) × (y.v ≤ x.v / 2147483648 + 2147483647)
 
--- how large the parts are, together
-abbrev pub size_of_parts : Wide → ℕ
-size_of_parts x = x.u + x.v
+-- how large a part is: u has the index 0, v every other
+unfoldable pub size_of_part : Wide → ℕ → ℕ
+size_of_part x zero = x.u
+size_of_part x (suc i) = x.v

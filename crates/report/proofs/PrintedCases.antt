@@ -24,7 +24,8 @@ use Rattle.evaluation.specs.Sheet.{places_of}
 use Rattle.evaluation.proofs.EvaluatePromises.{at_most_1024}
 use Rattle.evaluation.proofs.SheetAfterEvaluate.{place-given}
 use Rattle.scalar.specs.Elements.{singles}
-use Rattle.evaluate.specs.Answer.{counted_of, evaluated_outcome}
+use Rattle.evaluate.specs.Answer.{evaluated_outcome}
+use Rattle.evaluate.specs.AnswerOver.{counted_of}
 use Rattle.field.specs.declared.fp.Fp.{Fp}
 use Rattle.evaluate.specs.declared.Counted.{Counted as OfCall}
 use Rattle.report.specs.Input.{rows_in, columns_in, point_length, key_in}

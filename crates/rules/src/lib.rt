@@ -42,17 +42,20 @@ pub fn array_opening(
     refuse_if(limit.columns < shape.columns, Reason::BitsTooMany, at)
 }
 
-// The rules of a cell in the array that is open.
+// The rules of a cell in the array that is open. All are tried, with no branch for each (docs/PERFORMANCE.md).
 pub fn cell(array: Opening, c: Cell, at: usize) -> Result<(), Refusal>
     ensures { result ≡ held_to (Ok tt) at (cell_rules array c) }
 {
     let shape = array.shape;
-    refuse_if(array.kind != 2, Reason::RecordMisplaced, at)?;
-    refuse_if(outside(shape.rows, c.row), Reason::CellOutside, at)?;
-    refuse_if(outside(shape.columns, c.column), Reason::CellOutside, at)?;
-    refuse_if(Fp::P <= c.a, Reason::ValueTooGreat, at)?;
-    refuse_if(Fp::P <= c.b, Reason::ValueTooGreat, at)?;
-    refuse_if(Fp::P <= c.c, Reason::ValueTooGreat, at)
+    refuse_if(array.kind != 2, Reason::RecordMisplaced, at)
+        .and(refuse_if(
+            outside(shape.rows, c.row) | outside(shape.columns, c.column),
+            Reason::CellOutside,
+            at,
+        ))
+        .and(refuse_if(Fp::P <= c.a, Reason::ValueTooGreat, at))
+        .and(refuse_if(Fp::P <= c.b, Reason::ValueTooGreat, at))
+        .and(refuse_if(Fp::P <= c.c, Reason::ValueTooGreat, at))
 }
 
 // The rules of a call of edition 1 in the array that is open, the last of `arrays`, of a key that is of edition 2 where `scaled`. Inner:
@@ -162,7 +165,8 @@ fn beyond(bits: u8, called: u8, position: u32) -> bool
     ensures { called ≤ bits → result ≡ beyond bits called position }
 {
     let left = (bits as u32 + 256 - called as u32) % 32;
-    outside(left as u8, position)
+    let power = 1u32 << left;
+    power <= position
 }
 
 // The shape of array i, from the two bytes behind its opening's kind. Inner: the table has its offset, and the bytes are there.
@@ -178,14 +182,11 @@ pub fn shape_at(key: &[u8], starts: &[u16], i: usize) -> Shape
     }
 }
 
-// Whether an address is outside a side of so many bits: 2^bits or more. Inner: it requires nothing.
+// Whether an address is outside a side of so many bits: 2^bits or more, so that something is left of it behind them. There is no branch
+// (docs/PERFORMANCE.md). Inner: it requires nothing.
 pub fn outside(bits: u8, address: u32) -> bool
     ensures { result ≡ outside bits address }
 {
-    if bits < 32 {
-        let power = 1u32 << bits;
-        power <= address
-    } else {
-        false
-    }
+    let left = address as u64 >> bits.min(32);
+    left != 0
 }

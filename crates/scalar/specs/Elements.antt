@@ -1,5 +1,6 @@
 -- How the values of a type of the code are the elements of a field in which keys are evaluated. What is said of tables and sums is said
--- over this, whatever the type. The contracts of inner functions cite it; no public promise rests on it.
+-- over this, whatever the type. The contracts of inner functions cite it, and those of `evaluate::over` and `compare::over`, which are over
+-- any field; no promise of a call over the field of p, or over that of p², rests on it.
 use Rattle.std.specs.Prelude.{ℕ, ◌/◌, ◌<◌, List, ◌≡◌, length}
 use Rattle.std.proofs.Common.{arith}
 use Rattle.field.specs.Fp.{p}

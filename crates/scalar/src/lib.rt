@@ -5,6 +5,7 @@ mod of_prime;
 mod of_quadratic;
 pub mod unreduced;
 
+ghost use Rattle.std.specs.Mem.{type_size};
 ghost use Rattle.std.specs.Prelude.{◌≡◌, true, ℕ, suc, ◌+◌, ◌*◌, ◌≤◌, ◌<◌, length};
 ghost use Rattle.std.proofs.lemmas.List.Edits.{sets};
 ghost use Rattle.algebra.specs.Points.{Below};
@@ -46,10 +47,11 @@ pub trait Scalar: Copy + Eq {
     // A sum of values so multiplied, not reduced yet.
     type Sum: Copy;
 
-    // the element that it is, and how large its numbers are
+    // the element that it is
     ghost sum: { Self.Sum → elements.scalars.arithmetic.Carrier };
 
-    ghost size: { Self.Sum → ℕ };
+    // and how large each of its numbers is, by the index of the part that it stands for
+    ghost size: { Self.Sum → ℕ → ℕ };
 
     // The element 0.
     fn zero() -> Self
@@ -127,21 +129,21 @@ pub trait Scalar: Copy + Eq {
     // The sum of nothing.
     fn nothing() -> Self::Sum
         ensures empty { sum result ≡ elements.scalars.arithmetic.nought }
-        ensures small { size result ≡ 0 };
+        ensures small { (i : ℕ) → size result i ≡ 0 };
 
-    // A sum with a value added to it that is multiplied. Inner: its size is below 2^63.
+    // A sum with a value added to it that is multiplied: each of its numbers grows by less than 2^34. Inner: each is below 2^63.
     fn plus(total: Self::Sum, by: Self::Multiplier, value: Self) -> Self::Sum
-        requires { size total < 9223372036854775808 }
+        requires { (i : ℕ) → size total i < 9223372036854775808 }
         ensures added { sum result ≡ elements.scalars.arithmetic.add (sum total)
             (elements.scalars.arithmetic.mul (elements.element value) (multiplier by)) }
-        ensures little { size result < size total + 34359738368 };
+        ensures little { (i : ℕ) → size result i < size total i + 17179869184 };
 
     // The same of a value that is an element of the field of p.
     fn plus_embedded(total: Self::Sum, by: Self::Multiplier, value: Fp) -> Self::Sum
-        requires { size total < 9223372036854775808 }
+        requires { (i : ℕ) → size total i < 9223372036854775808 }
         ensures added { sum result ≡ elements.scalars.arithmetic.add (sum total)
             (elements.scalars.arithmetic.mul (elements.scalars.embed value.number) (multiplier by)) }
-        ensures little { size result < size total + 34359738368 };
+        ensures little { (i : ℕ) → size result i < size total i + 17179869184 };
 
     // The element that a sum is.
     fn total(whole: Self::Sum) -> Self
@@ -153,7 +155,10 @@ pub trait Scalar: Copy + Eq {
     // and values that are one element are equal
     ghost alike: { (x y : Self) → elements.element x ≡ elements.element y → Self.eq x y ≡ true };
 
-    // an element has so many numbers
+    // an element takes at most 16 bytes
+    ghost few_bytes: { type_size Self.row ≤ 16 };
+
+    // it has so many numbers
     ghost width: { WIDTH ≡ elements.scalars.width };
 
     // which are at most two

@@ -1,6 +1,7 @@
 // The field of p elements as one in which keys are evaluated: one number each.
 ghost use Rattle.std.specs.Prelude.{◌≡◌, ◌+◌, ◌*◌, ◌%◌, ◌≤◌, refl};
 ghost use Rattle.field.specs.Fp.{p, fp};
+ghost use Rattle.std.proofs.Common.{arith};
 ghost use Rattle.scalar.specs.Elements.{singles};
 ghost use Rattle.scalar.specs.Lawful.{singles-lawful, singles-valid, singles-same, singles-alike, singles-narrow};
 
@@ -31,7 +32,7 @@ impl Scalar for Fp {
 
     ghost sum = { λ x. x.number % p };
 
-    ghost size = { λ x. x.number };
+    ghost size = { λ x i. x.number };
 
     fn zero() -> Fp {
         Fp::zero()
@@ -131,6 +132,8 @@ impl Scalar for Fp {
     ghost same = { singles-same };
 
     ghost alike = { singles-alike };
+
+    ghost few_bytes = { omega arith };
 
     ghost width = { refl };
 

@@ -1,8 +1,9 @@
 // The field of p² elements as one in which keys are evaluated: two numbers each, u first.
 ghost use Rattle.std.specs.Prelude.{◌≡◌, ⊤, refl};
+ghost use Rattle.std.proofs.Common.{arith};
 ghost use Rattle.scalar.specs.Elements.{doubles};
 ghost use Rattle.scalar.specs.Lawful.{doubles-lawful, doubles-valid, doubles-same, doubles-alike, doubles-narrow};
-ghost use Rattle.quadratic.specs.Unreduced.{remainders, wide_remainders, size_of_parts};
+ghost use Rattle.quadratic.specs.Unreduced.{remainders, wide_remainders, size_of_part};
 
 use crate::Scalar;
 use field::Fp;
@@ -32,7 +33,7 @@ impl Scalar for Fp2 {
 
     ghost sum = { wide_remainders };
 
-    ghost size = { size_of_parts };
+    ghost size = { size_of_part };
 
     fn zero() -> Fp2 {
         Fp2::zero()
@@ -109,6 +110,8 @@ impl Scalar for Fp2 {
     ghost same = { doubles-same };
 
     ghost alike = { doubles-alike };
+
+    ghost few_bytes = { omega arith };
 
     ghost width = { refl };
 

@@ -6,7 +6,8 @@ ghost use Rattle.weights.specs.Side.{pairs, Prepared, Weighs};
 use scalar::Scalar;
 
 // The weight of a number over the bits of a side from one up to another: the first factor is read, the others are multiplied four at a
-// time, and what is left one by one. Inner: the table is one for so many bits.
+// time, and what is left one by one. Where an element has more numbers than one, all are multiplied one by one: four at a time gain nothing
+// (docs/PERFORMANCE.md). Inner: the table is one for so many bits.
 pub(crate) fn bit_by_bit<S: Scalar>(a: u32, table: &[S], from: usize, to: usize) -> S::Product
     requires { (from ≤ to) × Prepared S.elements to table.now }
     ensures { Weighs S.elements table.now a from to (S.product result) }
@@ -15,6 +16,9 @@ pub(crate) fn bit_by_bit<S: Scalar>(a: u32, table: &[S], from: usize, to: usize)
         return S::one().begun();
     }
     let begun = single(table, from, a % 2).begun();
+    if 1 < S::WIDTH {
+        return singly(begun, a / 2, table, from + 1, to);
+    }
     if from + 1 == to {
         return begun;
     }

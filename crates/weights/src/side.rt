@@ -82,10 +82,14 @@ fn first<S: Scalar>(a: u32, table: &[S], to: usize) -> S::Product
     ensures { Weighs S.elements table.now a 0 to (S.product result) }
 {
     if table.len() <= PLACES {
-        bits::bit_by_bit(a, table, 0, to)
-    } else {
-        limbs::limb_by_limb(a, table, 0, to)
+        return bits::bit_by_bit(a, table, 0, to);
     }
+    if 1 < S::WIDTH {
+        if to == 30 {
+            return limbs::of_thirty(a, table, 0);
+        }
+    }
+    limbs::limb_by_limb(a, table, 0, to)
 }
 
 // The same over the bits from one up to another. Inner: likewise, and the first bit is not behind the last. (As a call of it with 0,
@@ -95,8 +99,12 @@ fn between<S: Scalar>(a: u32, table: &[S], from: usize, to: usize) -> S::Product
     ensures { Weighs S.elements table.now a from to (S.product result) }
 {
     if table.len() <= PLACES {
-        bits::bit_by_bit(a, table, from, to)
-    } else {
-        limbs::limb_by_limb(a, table, from, to)
+        return bits::bit_by_bit(a, table, from, to);
     }
+    if to == 30 {
+        if from < 5 {
+            return limbs::of_thirty(a, table, from);
+        }
+    }
+    limbs::limb_by_limb(a, table, from, to)
 }

@@ -8,8 +8,7 @@ use Rattle.refusal.specs.Outcome.{given}
 use Rattle.refusal.specs.declared.Which.{Which}
 use Rattle.refusal.proofs.Outcomes.{handed-on, told-about, kept-about}
 use Rattle.key.specs.Check.{checked_outcome, checked_key}
-use Rattle.judge.specs.Inner.{judged}
-use Rattle.judge.specs.Judged.{pair_judged, together}
+use Rattle.judge.specs.Judged.{pair_judged}
 use Rattle.judge.proofs.KeysTogether.{few-records}
 use Rattle.evaluation.proofs.EvaluatePromises.{arrays-counted, table-indexed}
 use Rattle.comparison.proofs.CompareCases.{promised, first-refused, second-refused, neither-refused}
@@ -29,15 +28,14 @@ other-accepted g c =
 
 -- nor is what names neither key refused
 admitted : (g : _) (c : In_ok-map_err g) →
-    let both = together c.in_ok-first_counts.first_counts c.in_ok-second_counts.second_counts in
     pair_judged g.S.Scalar.elements.scalars.width c.args.rows.now c.args.columns.now (length c.args.sheet.now)
     c.in_ok-first_counts.first_counts c.in_ok-second_counts.second_counts
-    ≡ given both
+    ≡ given c.in_ok-map_err.field-0
 admitted g c =
     ap (λ (n : ℕ). pair_judged n c.args.rows.now c.args.columns.now (length c.args.sheet.now) c.in_ok-first_counts.first_counts
     c.in_ok-second_counts.second_counts) (sym (c.WIDTH.ensures ∙ g.met.S.Scalar.width))
     ∙ sym c.pair.ensures
-    ∙ ap (judged (together c.in_ok-first_counts.first_counts c.in_ok-second_counts.second_counts))
+    ∙ ap checked_outcome
     (kept-about _ _ Which.Neither c.map_err-3.ensures.cases _ c.in_ok-map_err.was)
 
 pub returns-in_err-first_counts : goal.returns-in_err-first_counts
@@ -77,7 +75,7 @@ returns-in_err-map_err g c =
     (ap (λ (n : ℕ). pair_judged n c.args.rows.now c.args.columns.now (length c.args.sheet.now) c.in_ok-first_counts.first_counts
     c.in_ok-second_counts.second_counts) (sym (c.WIDTH.ensures ∙ g.met.S.Scalar.width))
     ∙ sym c.pair.ensures
-    ∙ ap (judged (together c.in_ok-first_counts.first_counts c.in_ok-second_counts.second_counts)) is.0)) in
+    ∙ ap checked_outcome is.0)) in
     let exit = handed-on _ c.from_residual-in_err-map_err.ensures.1 ∙ ap Err is.1 in
     record { answer = ap compared_answer exit ∙ told.0; factors = ap compared_factors exit ∙ told.1.0; sheet = told.1.1 }
 
@@ -95,7 +93,7 @@ new-other-requires g c =
 ready : (g : _) (c : In_ok-map_err g) (one : checked_key c.args.first.now ≡ given c.in_ok-first_counts.first_counts)
     (other : checked_key c.args.second.now ≡ given c.in_ok-second_counts.second_counts) →
     BothServed g.S.Scalar.elements.scalars g.S.Scalar.lawful.lawful c.args.first.now c.args.second.now _ _ one other c.args.rows.now
-    c.args.columns.now (length c.args.sheet.now) (together c.in_ok-first_counts.first_counts c.in_ok-second_counts.second_counts)
+    c.args.columns.now (length c.args.sheet.now) c.in_ok-map_err.field-0
 ready g c one other =
     served g.S.Scalar.elements.scalars g.S.Scalar.lawful.lawful _ _ _ _ c.args.sheet.now _ _ _ one other (admitted g c)
 

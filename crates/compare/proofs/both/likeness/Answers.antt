@@ -6,7 +6,7 @@ use Rattle.std.proofs.lemmas.Bool.{and_from, and_parts}
 use Rattle.arrays.specs.Arrays.{A, B, C}
 use Rattle.comparison.specs.Compare.{likeness}
 use Rattle.comparison.proofs.Likeness.{all-equal, likeness-either, same-equal}
-use Rattle.evaluate.specs.Answer.{values_of}
+use Rattle.evaluate.specs.AnswerOver.{values_of}
 use Rattle.compare.proofs.both.likeness.Goals as goal
 
 pub returns-then-eq : goal.returns-then-eq

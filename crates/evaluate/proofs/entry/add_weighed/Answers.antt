@@ -1,6 +1,6 @@
 -- `evaluate::entry::add_weighed` meets its contract: A, B and C, each times the weight.
 use mathlib.Core.Path.{refl}
-use Rattle.evaluate.specs.Answer.{values_of}
+use Rattle.evaluate.specs.AnswerOver.{values_of}
 use Rattle.evaluate.proofs.UnreducedSums.{grown}
 use Rattle.evaluate.proofs.entry.add_weighed.Goals as goal
 

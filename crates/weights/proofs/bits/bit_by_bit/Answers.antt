@@ -15,6 +15,19 @@ returns-then-from-to g c =
     weight-read g.S.Scalar.elements.scalars.arithmetic (pairs g.S.Scalar.elements c.args.table.now) c.args.a c.args.from c.args.to 0
     c.args.from _ (omega arith) refl (c.begun.ensures.is ∙ c.one.ensures)
 
+pub returns-then-WIDTH-gt1 : goal.returns-then-WIDTH-gt1
+returns-then-WIDTH-gt1 g c =
+    let 𝓔 = g.S.Scalar.elements in
+    let table = c.args.table.now in
+    let from = c.args.from in
+    let one : 1 ≡ from + 1 - from = omega arith in
+    weight-onward 𝓔.scalars.arithmetic g.S.Scalar.lawful.lawful.field.ring (pairs 𝓔 table) c.args.a from (from + 1) c.args.to (c.args.a / 2)
+    (g.S.Scalar.product c.begun-begun.result) _ (omega arith) (omega (arith, c.if-from-to.false, c.requires.0))
+    (ap (λ (n : ℕ). c.args.a / 2 ^ n) one)
+    (weight-read 𝓔.scalars.arithmetic (pairs 𝓔 table) c.args.a from (from + 1) 1 from _ one refl
+    (c.begun-begun.ensures.is ∙ c.single.ensures ∙ factor-alone 𝓔 g.S.Scalar.lawful table from c.args.a))
+    c.singly.ensures
+
 pub returns-then-from-to-2 : goal.returns-then-from-to-2
 returns-then-from-to-2 g c =
     weight-read g.S.Scalar.elements.scalars.arithmetic (pairs g.S.Scalar.elements c.args.table.now) c.args.a c.args.from c.args.to 1
@@ -45,4 +58,4 @@ returns g c =
     (c.in_fours-product.ensures
     ∙ ap (𝓐.mul (g.S.Scalar.product c.begun-begun.result)) (fours-weight 𝓔 table from at begins room (c.args.a / 2))) in
     weight-onward 𝓐 𝓡 (pairs 𝓔 table) c.args.a from at to _ (g.S.Scalar.product c.in_fours-product.result)
-    (g.S.Scalar.product c.singly.result) (omega (arith, begins)) ends refl fours c.singly.ensures
+    (g.S.Scalar.product c.singly-2.result) (omega (arith, begins)) ends refl fours c.singly-2.ensures

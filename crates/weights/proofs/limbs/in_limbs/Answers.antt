@@ -17,23 +17,6 @@ returns-then-ends-limb g c =
           c.args.from _ none refl (c.begun.ensures.is ∙ c.one.ensures),
     )
 
-pub returns-then-ends-eq6 : goal.returns-then-ends-eq6
-returns-then-ends-eq6 g c =
-    let 𝓔 = g.S.Scalar.elements in
-    let 𝓐 = 𝓔.scalars.arithmetic in
-    let from = c.args.from in
-    let first : 5 * (from / 5) + 5 ≤ c.args.to = omega (arith, c.if-ends-limb.false) in
-    let bits : 5 * (from / 5) + 5 - from ≡ 5 * 1 - from = omega (arith, c.if-limb-eq0.true) in
-    let here : 5 * (from / 5) + (5 - (5 * (from / 5) + 5 - from)) ≡ from = omega arith in (
-      omega (arith, first, c.if-ends-eq6.true),
-      omega (arith, c.if-ends-eq6.true),
-      weight-onward 𝓐 g.S.Scalar.lawful.lawful.field.ring (pairs 𝓔 c.args.table.now) c.args.a from (5 * 1) 30 _
-          (𝓔.element c.limb_weight-begun.result) (g.S.Scalar.product c.whole_limbs.result) (omega (arith, c.if-limb-eq0.true))
-          (omega arith) (ap (λ (n : ℕ). c.args.a / 2 ^ n) bits)
-          (c.limb_weight-begun.ensures ∙ ap₂ (λ (n i : ℕ). bitwise 𝓐 (pairs 𝓔 c.args.table.now) n i c.args.a) bits here)
-          c.whole_limbs.ensures,
-    )
-
 pub returns : goal.returns
 returns g c =
     let 𝓔 = g.S.Scalar.elements in
@@ -45,8 +28,8 @@ returns g c =
       omega (arith, first),
       omega arith,
       weight-onward 𝓐 g.S.Scalar.lawful.lawful.field.ring (pairs 𝓔 c.args.table.now) c.args.a from (5 * (from / 5 + 1))
-          (5 * (c.args.to / 5)) _ (𝓔.element c.limb_weight-begun.result) (g.S.Scalar.product c.whole_limbs-2.result) (omega arith)
+          (5 * (c.args.to / 5)) _ (𝓔.element c.limb_weight-begun.result) (g.S.Scalar.product c.further_limbs.result) (omega arith)
           (omega (arith, first)) (ap (λ (n : ℕ). c.args.a / 2 ^ n) bits)
           (c.limb_weight-begun.ensures ∙ ap₂ (λ (n i : ℕ). bitwise 𝓐 (pairs 𝓔 c.args.table.now) n i c.args.a) bits here)
-          c.whole_limbs-2.ensures,
+          c.further_limbs.ensures,
     )

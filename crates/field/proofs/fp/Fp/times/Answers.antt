@@ -5,6 +5,7 @@ use mathlib.Core.Path.{sym, ◌∙◌}
 use native.Mathlib.Nat.{mul-le-mul}
 use native.Mathlib.Omega.{arith}
 use Rattle.field.specs.Fp.{p}
+use Rattle.field.proofs.EqualElements.{number-held}
 use Rattle.field.proofs.Remainders.{mod-mul-mod}
 use Rattle.field.proofs.fp.Fp.times.Goals as goal
 
@@ -13,4 +14,5 @@ fits number other below = let l : number ≤ number = omega arith in let m : oth
 
 pub returns : goal.returns
 returns c =
-    (c.folded.ensures.0 ∙ sym (mod-mul-mod _ _ p), omega (arith, c.folded.ensures.1, fits _ _ (c.requires, c.args.other.below)))
+    rw (← number-held c.other.invariant c.other.view_is)
+    (c.folded.ensures.0 ∙ sym (mod-mul-mod _ _ p), omega (arith, c.folded.ensures.1, fits _ _ (c.requires, c.other.invariant)))

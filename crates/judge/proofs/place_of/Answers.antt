@@ -1,8 +1,8 @@
--- `judge::place` meets its contract: the row is judged before the column.
+-- `judge::place_of` meets its contract: the row is judged before the column.
 use mathlib.Core.Path.{sym, ap, ◌∙◌}
 use Rattle.refusal.specs.Outcome.{refusal_of}
 use Rattle.judge.proofs.JudgementCases.{row-outside, column-outside, both-inside}
-use Rattle.judge.proofs.place.Goals as goal
+use Rattle.judge.proofs.place_of.Goals as goal
 
 pub returns-then-outside : goal.returns-then-outside
 returns-then-outside c = ap refusal_of c.new.ensures ∙ sym (row-outside _ _ _ (sym c.outside.ensures ∙ c.if-outside.true))

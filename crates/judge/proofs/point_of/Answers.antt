@@ -5,7 +5,7 @@ use lib.ListN.{length}
 use Rattle.refusal.specs.Outcome.{refuse, refusal_of}
 use Rattle.refusal.specs.declared.Reason.{Reason}
 use Rattle.judge.proofs.JudgementCases.{row-count-wrong, column-count-wrong, row-over, column-over, point-given}
-use Rattle.judge.proofs.point.Goals as goal
+use Rattle.judge.proofs.point_of.Goals as goal
 
 pub returns-then-row_count-width : goal.returns-then-row_count-width
 returns-then-row_count-width c = ap refusal_of c.new.ensures ∙ sym (row-count-wrong _ _ _ _ c.if-row_count-width.true)
