@@ -131,16 +131,17 @@ pub trait Scalar: Copy + Eq {
         ensures empty { sum result ≡ elements.scalars.arithmetic.nought }
         ensures small { (i : ℕ) → size result i ≡ 0 };
 
-    // A sum with a value added to it that is multiplied: each of its numbers grows by less than 2^34. Inner: each is below 2^63.
+    // A sum with a value added to it that is multiplied: each of its numbers grows by less than 2^34. Inner: each of the
+    // `width` numbers is below 2^63.
     fn plus(total: Self::Sum, by: Self::Multiplier, value: Self) -> Self::Sum
-        requires { (i : ℕ) → size total i < 9223372036854775808 }
+        requires { (i : ℕ) → i < elements.scalars.width → size total i < 9223372036854775808 }
         ensures added { sum result ≡ elements.scalars.arithmetic.add (sum total)
             (elements.scalars.arithmetic.mul (elements.element value) (multiplier by)) }
         ensures little { (i : ℕ) → size result i < size total i + 17179869184 };
 
     // The same of a value that is an element of the field of p.
     fn plus_embedded(total: Self::Sum, by: Self::Multiplier, value: Fp) -> Self::Sum
-        requires { (i : ℕ) → size total i < 9223372036854775808 }
+        requires { (i : ℕ) → i < elements.scalars.width → size total i < 9223372036854775808 }
         ensures added { sum result ≡ elements.scalars.arithmetic.add (sum total)
             (elements.scalars.arithmetic.mul (elements.scalars.embed value.number) (multiplier by)) }
         ensures little { (i : ℕ) → size result i < size total i + 17179869184 };
