@@ -1,4 +1,4 @@
--- Sums of whole numbers: compared, added and multiplied term by term, and sums of which all terms but one are known.
+-- Sums of whole numbers: compared with each term, compared, added and multiplied term by term, and sums of which all terms but one are known.
 use Prim.Native.Nat.{ℕ, zero, suc, ◌+◌, ◌-◌, ◌*◌, ◌≤◌, ◌<◌, zero-le}
 use mathlib.Core.Path.{◌≡◌, refl, sym, ap, ◌∙◌}
 use native.Mathlib.Decide.{ℕ_discrete}
@@ -7,7 +7,17 @@ use native.Mathlib.Omega.{arith}
 use Rattle.algebra.specs.Arithmetic.{sum_below, whole}
 use Rattle.algebra.proofs.Sums.{sum_same}
 
-total-le : (n : ℕ) (f g : ℕ → ℕ) → ((x : ℕ) → x < n → f x ≤ g x) → sum_below whole n f ≤ sum_below whole n g
+-- a term is at most the sum
+pub total-term : (n : ℕ) (f : ℕ → ℕ) (x : ℕ) → x < n → f x ≤ sum_below whole n f
+unfolding sum_below
+total-term zero f x l = absurd (omega (arith, l))
+total-term (suc n) f x l =
+    elim (ℕ_discrete n x) [
+      | yes last ↦ omega (arith, ap f last)
+      | no before ↦ omega (arith, total-term n f x (omega (arith, l, before)))
+    ]
+
+pub total-le : (n : ℕ) (f g : ℕ → ℕ) → ((x : ℕ) → x < n → f x ≤ g x) → sum_below whole n f ≤ sum_below whole n g
 unfolding sum_below
 total-le zero f g h = zero-le
 total-le (suc n) f g h = omega (arith, total-le n f g (λ x l. h x (omega arith)), h n (le_refl (suc n)))
@@ -27,6 +37,9 @@ unfolding sum_below
 total-mul zero c f = sym (zero-mul c)
 total-mul (suc n) c f = ap (λ (s : ℕ). s + f n * c) (total-mul n c f) ∙ sym (add-mul (sum_below whole n f) (f n) c)
 
+pub total-none : (n : ℕ) (f : ℕ → ℕ) → ((x : ℕ) → x < n → f x ≡ 0) → sum_below whole n f ≡ 0
+total-none n f none = sum_same whole n f (λ x. 0) none ∙ total-const n 0 ∙ mul-zero n
+
 -- one term is all there is
 pub total-one : (n z c : ℕ) (f : ℕ → ℕ) → z < n → f z ≡ c → ((x : ℕ) → x < n → (x ≡ z → ⊥) → f x ≡ 0) →
     sum_below whole n f ≡ c
@@ -35,7 +48,7 @@ total-one zero z c f l e h = absurd (omega arith)
 total-one (suc n) z c f l e h = go (ℕ_discrete n z) (λ k. total-one n z c f k e (λ x j. h x (omega arith)))
   where
     none : n ≡ z → sum_below whole n f ≡ 0
-    none s = sum_same whole n f (λ x. 0) (λ x j. h x (omega arith) (λ t. omega arith)) ∙ total-const n 0 ∙ mul-zero n
+    none s = total-none n f (λ x j. h x (omega arith) (λ t. omega arith))
 
     go : Dec (n ≡ z) → (z < n → sum_below whole n f ≡ c) → sum_below whole n f + f n ≡ c
     go (yes s) ih = omega (arith, none s, ap f s ∙ e)

@@ -3,6 +3,8 @@
 
 mod of_prime;
 mod of_quadratic;
+#[cfg(test)]
+mod tests;
 pub mod unreduced;
 
 ghost use Rattle.std.specs.Mem.{type_size};
